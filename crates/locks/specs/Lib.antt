@@ -1,0 +1,13 @@
+pub mod Agreement
+pub mod Alone
+pub mod Graphs
+pub mod Held
+pub mod Limits
+pub mod Moves
+pub mod Refusals
+pub mod Schedules
+pub mod Sets
+pub mod States
+pub mod Steps
+pub mod Together
+pub mod Walks

@@ -1,0 +1,3 @@
+pub mod MoveLaws
+pub mod ReplayLaws
+pub mod WeighLaws

@@ -1,0 +1,4 @@
+pub mod Folders
+pub mod Playing
+pub mod Replaying
+pub mod Weighing
