@@ -1,2 +1,9 @@
+pub mod Distances
 pub mod HeldLaws
+pub mod Interleaving
+pub mod LeastSum
+pub mod Nesting
 pub mod SetLaws
+pub mod Splitting
+pub mod Telling
+pub mod Tracking

@@ -1,5 +1,6 @@
 pub mod Agreement
 pub mod Alone
+pub mod Decomposition
 pub mod Graphs
 pub mod Held
 pub mod Limits
@@ -7,7 +8,9 @@ pub mod Moves
 pub mod Refusals
 pub mod Schedules
 pub mod Sets
+pub mod Shortest
 pub mod States
 pub mod Steps
 pub mod Together
+pub mod Traces
 pub mod Walks

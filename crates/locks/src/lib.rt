@@ -6,4 +6,5 @@ pub mod refusals;
 pub mod sets;
 pub mod states;
 pub mod steps;
+pub mod theory;
 pub mod together;

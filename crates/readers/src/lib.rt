@@ -1,0 +1,2 @@
+// Readers of the byte forms in which a thread is handed over.
+pub mod listing;
