@@ -29,6 +29,7 @@ impl Move {
     }
 }
 
+// A number names a move exactly when it is that move's number.
 pub fn moves_have_their_numbers() -> u8
     ensures { λ _. ⌜ Moves-have-their-numbers ⌝ }
 {

@@ -51,7 +51,7 @@ pub command-there : (cs : List Command) (n : ℕ) (c : Command) → Some c ≡ c
 command-there cs n c e =
     ⊎-elim
     (λ t. let q = cond-true (ltb n (length cs)) (Some (getD cs n Stop)) None t in
-      (ltb-true n (length cs) t, (let same : c ≡ getD cs n Stop = cc in same)))
+    (ltb-true n (length cs) t, (let same : c ≡ getD cs n Stop = cc in same)))
     (λ f. let q = cond-false (ltb n (length cs)) (Some (getD cs n Stop)) None f in let z : _≡_ {A = ℕ} 0 1 = cc in zero-one z)
     (cases-bool (ltb n (length cs)))
 
@@ -134,8 +134,8 @@ fits-at : (cs : List Command) → WellFormed cs → (l n : ℕ) (s : Step) → s
 fits-at cs w l n s e =
     ⊎-elim
     (λ h. command-fits (listing-graph cs) l (length cs) (getD cs l Stop) n s (length-steps 0 cs)
-      (all-getD LockIsKnown cs l Stop h (w .locks-known)) (all-getD (LeadsInside (length cs)) cs l Stop h (w .leads-inside)) (leads-on cs w l h)
-      (ap (λ xs. nth xs n) (sym (steps-here l cs Stop h)) ∙ e))
+    (all-getD LockIsKnown cs l Stop h (w .locks-known)) (all-getD (LeadsInside (length cs)) cs l Stop h (w .leads-inside)) (leads-on cs w l h)
+    (ap (λ xs. nth xs n) (sym (steps-here l cs Stop h)) ∙ e))
     (λ h. let q = ap (λ xs. nth xs n) (sym (steps-outside l cs h)) ∙ e in let z : _≡_ {A = ℕ} 0 1 = cc in zero-one z)
     (cases-lt l (length cs))
 
@@ -145,5 +145,9 @@ listing-bounded cs w =
     let m : length cs ≡ length (w .ends .0) + 1 = ap length (w .ends .2) ∙ length-push (w .ends .0) (w .ends .1) in
     let few = w .few in
     record {
-      not-empty = omega arith; few-locations = omega arith; start-there = omega arith;
-      few-steps = few-at cs; steps-fit = fits-at cs w }
+      not-empty = omega arith;
+      few-locations = omega arith;
+      start-there = omega arith;
+      few-steps = few-at cs;
+      steps-fit = fits-at cs w;
+    }

@@ -1,5 +1,5 @@
 -- The graph that a run of commands means: command n is location n, and the start is location 0.
-use Prim.Native.Nat.{ℕ, suc, _+_}
+use Prim.Native.Nat.{ℕ, _+_}
 use mathlib.Core.List.{List, [], _∷_}
 use Rattle.locks.specs.declared.steps.Kind.the-variants as kind
 use Rattle.locks.specs.declared.steps.Step.{Step}

@@ -1,4 +1,4 @@
-// The weighing of two locked states, and folders over any kind of thread graph.
+// The weighing of two locked states, folders over any kind of thread graph, moves and replay.
 pub mod folders;
 pub mod playing;
 pub mod replaying;

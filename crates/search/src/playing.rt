@@ -3,6 +3,7 @@ ghost use mathlib.Core.Path.{_≡_};
 ghost use Rattle.locks.specs.Graphs.{step-at};
 ghost use Rattle.locks.specs.Schedules.{from-starts, graph-of};
 ghost use Rattle.locks.specs.Together.{position-of};
+ghost use Rattle.search.specs.Folders.{contents};
 ghost use Rattle.search.specs.Playing.{Made};
 use crate::folders::Folder;
 use graph::ThreadGraph;
@@ -25,7 +26,7 @@ pub fn at_starts<L: ThreadGraph, R: ThreadGraph>(
     left: &Folder<L>,
     right: &Folder<R>,
 ) -> Configuration
-    ensures { λ r. ⌜ r ≡ from-starts (L·ThreadGraph .meaning (now (left .entry) .graph)) (R·ThreadGraph .meaning (now (right .entry) .graph)) ⌝ }
+    ensures { λ r. ⌜ r ≡ from-starts (L·ThreadGraph .meaning (contents (now (left .entry)) .graph)) (R·ThreadGraph .meaning (contents (now (right .entry)) .graph)) ⌝ }
 {
     Configuration::at_starts(left.graph().start(), right.graph().start())
 }
@@ -37,7 +38,7 @@ pub fn make_move<L: ThreadGraph, R: ThreadGraph>(
     from: &Configuration,
     number: u16,
 ) -> Result<Configuration, MoveFault>
-    ensures { λ r. ⌜ Made (L·ThreadGraph .meaning (now (left .entry) .graph)) (R·ThreadGraph .meaning (now (right .entry) .graph)) (now (from .entry)) number r ⌝ }
+    ensures { λ r. ⌜ Made (L·ThreadGraph .meaning (contents (now (left .entry)) .graph)) (R·ThreadGraph .meaning (contents (now (right .entry)) .graph)) (now (from .entry)) number r ⌝ }
 {
     let Some(chosen) = Move::from_number(number) else {
         return Err(MoveFault::NoStep);

@@ -1,6 +1,6 @@
 // The replay of a schedule.
-ghost use lib.ListN.{length};
 ghost use mathlib.Core.Path.{_≡_};
+ghost use Rattle.search.specs.Folders.{contents};
 ghost use Rattle.search.specs.Replaying.{fault-at, replay-refusal, Moves-say, Replay-says, Replayed};
 use crate::folders::Folder;
 use crate::playing::MoveFault;
@@ -52,7 +52,7 @@ pub fn replay<L: ThreadGraph, R: ThreadGraph>(
     right_location: u32,
     moves: &[u16],
 ) -> Result<(), ReplayFault>
-    ensures { λ r. ⌜ Replayed (L·ThreadGraph .meaning (now (left .entry) .graph)) (R·ThreadGraph .meaning (now (right .entry) .graph)) «left_location» «right_location» (now (moves .entry)) r ⌝ }
+    ensures { λ r. ⌜ Replayed (L·ThreadGraph .meaning (contents (now (left .entry)) .graph)) (R·ThreadGraph .meaning (contents (now (right .entry)) .graph)) «left_location» «right_location» (now (moves .entry)) r ⌝ }
 {
     answer(left, right, left_location, right_location, moves)
 }
@@ -64,7 +64,7 @@ fn answer<L: ThreadGraph, R: ThreadGraph>(
     right_location: u32,
     moves: &[u16],
 ) -> Result<(), ReplayFault>
-    ensures { λ r. ⌜ Replay-says (L·ThreadGraph .meaning (now (left .entry) .graph)) (R·ThreadGraph .meaning (now (right .entry) .graph)) «left_location» «right_location» (now (moves .entry)) r ⌝ }
+    ensures { λ r. ⌜ Replay-says (L·ThreadGraph .meaning (contents (now (left .entry)) .graph)) (R·ThreadGraph .meaning (contents (now (right .entry)) .graph)) «left_location» «right_location» (now (moves .entry)) r ⌝ }
 {
     if left_location >= u32::from(left.graph().locations()) {
         return Err(ReplayFault::NoLocation(Side::Left));
@@ -88,7 +88,7 @@ fn make_moves<L: ThreadGraph, R: ThreadGraph>(
     right: &Folder<R>,
     moves: &[u16],
 ) -> Result<Configuration, ReplayFault>
-    ensures { λ r. ⌜ Moves-say (L·ThreadGraph .meaning (now (left .entry) .graph)) (R·ThreadGraph .meaning (now (right .entry) .graph)) (now (moves .entry)) r ⌝ }
+    ensures { λ r. ⌜ Moves-say (L·ThreadGraph .meaning (contents (now (left .entry)) .graph)) (R·ThreadGraph .meaning (contents (now (right .entry)) .graph)) (now (moves .entry)) r ⌝ }
 {
     let mut reached = at_starts(left, right);
     for (place, number) in moves.iter().enumerate() {

@@ -1,6 +1,5 @@
 ghost use mathlib.Core.Path.{_≡_};
 ghost use Rattle.readers.specs.Faults.{listing-refusal};
-
 use locks::refusals::Part;
 use locks::refusals::Refusal;
 

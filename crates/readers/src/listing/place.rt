@@ -3,7 +3,6 @@ mod questions;
 mod reading;
 
 pub use questions::ListingGraph;
-
 ghost use mathlib.Core.Path.{_≡_};
 ghost use mathlib.Core.Bool.{true};
 ghost use Prim.Native.Nat.{_≤_};

@@ -1,6 +1,6 @@
 // Takes commands off the front of the bytes.
 ghost use mathlib.Core.Path.{_≡_};
-ghost use Prim.Native.Nat.{ℕ, _+_, _*_};
+ghost use Prim.Native.Nat.{_+_, _*_};
 ghost use Rattle.readers.specs.Bytes.{Taken, lockOr};
 use crate::listing::Command;
 use crate::listing::Wrong;

@@ -11,6 +11,9 @@ use graph::ThreadGraph;
 use locks::steps::Kind;
 use locks::steps::Step;
 
+// A thread starts at its first command.
+const START: u16 = 0;
+
 pub impl ThreadGraph for Listing as ListingGraph {
     ghost meaning = { λ l. listing-graph (commandsIn l) };
 
@@ -19,7 +22,7 @@ pub impl ThreadGraph for Listing as ListingGraph {
     }
 
     fn start(&self) -> u16 {
-        0
+        START
     }
 
     fn step_count(&self, location: u16) -> u8 {
