@@ -1,3 +1,4 @@
+pub mod Comparing
 pub mod Distances
 pub mod HeldLaws
 pub mod Interleaving

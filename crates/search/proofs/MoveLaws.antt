@@ -26,6 +26,9 @@ known-in Plain l h = refl
 known-in Take l h = lt-ltb l lock-limit h
 known-in Give l h = lt-ltb l lock-limit h
 
+pub known-fit : (G : Graph) (s : Step) → Step-fits G s → step-known s ≡ true
+known-fit G s f = known-in (s .kind) (s .lock) (f .lock-there)
+
 -- a step that a bounded graph has names a lock
 pub known-step : (G H : Graph) → Bounded G → Bounded H → (c : Configuration) (n : ℕ) (m : Move) (s : Step) → Names-step G H c n m s → step-known s ≡ true
 known-step G H bG bH c n m s names = by (m .side) (names .there)

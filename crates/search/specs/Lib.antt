@@ -1,4 +1,10 @@
+pub mod Faults
 pub mod Folders
+pub mod Index
 pub mod Playing
 pub mod Replaying
+pub mod Scanning
+pub mod Searching
+pub mod Summaries
+pub mod Summarising
 pub mod Weighing
