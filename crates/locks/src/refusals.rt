@@ -1,6 +1,7 @@
 // What every refusal says.
 ghost use mathlib.Core.Path.{_≡_};
 ghost use Rattle.locks.specs.Refusals.{part-name};
+use std::fmt;
 
 // Which part of the tool refuses.
 #[derive(Clone, Copy)]
@@ -38,4 +39,13 @@ pub struct Refusal {
     pub number: u8,
     pub place: usize,
     pub part: Part,
+}
+
+pub impl fmt::Display for Refusal as RefusalDisplay {
+    fn fmt<W: fmt::Write>(&self, f: &mut fmt::Formatter<W>) -> fmt::Result {
+        let number = self.number;
+        let place = self.place;
+        let part = self.part.name();
+        write!(f, "refused {number} at {place} in {part}")
+    }
 }

@@ -18,6 +18,7 @@ pub use fault::Wrong;
 pub use fault::WrongDebug;
 pub use fault::WrongPartialEq;
 pub use laws::listings_are_their_commands;
+pub use laws::listings_mean_their_commands;
 pub use laws::refusals_have_their_reasons;
 pub use place::Listing;
 pub use place::ListingGraph;

@@ -2,6 +2,7 @@
 mod showing;
 
 use graph::ThreadGraph;
+use locks::refusals::RefusalDisplay;
 use readers::listing::Listing;
 use readers::listing::ListingGraph;
 use search::folders::Folder;
@@ -12,9 +13,7 @@ use search::replaying::replay;
 use showing::ConfigurationDisplay;
 use showing::MoveNumber;
 use showing::MoveNumberDisplay;
-use showing::RefusalDisplay;
 use showing::ShownConfiguration;
-use showing::ShownRefusal;
 use std::alloc::AllocError;
 use std::alloc::Global;
 use std::error::AnyError;
@@ -52,13 +51,20 @@ fn run(rt: &LibcRuntime) -> Result<(), AnyError> {
 fn opened(rt: &LibcRuntime, side: &str, bytes: &[u8]) -> Result<Option<Folder<Listing>>, AnyError> {
     let mut listing = Listing::new(rt.alloc())?;
     if let Err(fault) = listing.read(bytes) {
-        let refusal = ShownRefusal(fault.refusal());
+        let refusal = fault.refusal();
         println!(rt, "{side}: {refusal}")?;
         return Ok(None);
     }
     let locations = listing.locations();
-    println!(rt, "{side}: locations {locations}")?;
-    Ok(Some(Folder::open(Room::new(rt.alloc())?, listing)))
+    let mut folder = Folder::open(Room::new(rt.alloc())?, listing);
+    match folder.summarise() {
+        Ok(states) => println!(rt, "{side}: locations {locations}, locked states {states}")?,
+        Err(fault) => {
+            let refusal = fault.refusal();
+            println!(rt, "{side}: locations {locations}, {refusal}")?;
+        }
+    }
+    Ok(Some(folder))
 }
 
 // Where both threads are after each move, up to the first that cannot be made.
@@ -98,7 +104,7 @@ fn conclude(
             println!(rt, "replays to {a} {b}, moves {count}")
         }
         Err(fault) => {
-            let refusal = ShownRefusal(fault.refusal());
+            let refusal = fault.refusal();
             println!(rt, "{refusal}")
         }
     }

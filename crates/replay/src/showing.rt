@@ -1,5 +1,4 @@
-// How moves, configurations and refusals are printed.
-use locks::refusals::Refusal;
+// How moves and configurations are printed.
 use locks::sets::LOCKS;
 use locks::sets::LockSet;
 use locks::together::Configuration;
@@ -49,16 +48,4 @@ fn write_locks<W: fmt::Write>(f: &mut fmt::Formatter<W>, held: LockSet) -> fmt::
         }
     }
     if any { Ok(()) } else { write!(f, " nothing") }
-}
-
-#[derive(Drop)]
-pub struct ShownRefusal(pub Refusal);
-
-pub impl fmt::Display for ShownRefusal as RefusalDisplay {
-    fn fmt<W: fmt::Write>(&self, f: &mut fmt::Formatter<W>) -> fmt::Result {
-        let number = self.0.number;
-        let place = self.0.place;
-        let part = self.0.part.name();
-        write!(f, "refused {number} at {place} in {part}")
-    }
 }

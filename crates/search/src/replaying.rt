@@ -57,6 +57,7 @@ pub fn replay<L: ThreadGraph, R: ThreadGraph>(
     answer(left, right, left_location, right_location, moves)
 }
 
+// The answer by its own condition; that no other answer's condition holds is added once, above.
 fn answer<L: ThreadGraph, R: ThreadGraph>(
     left: &Folder<L>,
     right: &Folder<R>,

@@ -3,6 +3,8 @@ ghost use mathlib.Core.List.{[], _∷_};
 ghost use lib.ListN.{length};
 ghost use Rattle.std.specs.Vec.{made};
 ghost use Rattle.readers.specs.declared.listing.command.Command.the-variants.{Stop};
+ghost use Rattle.readers.specs.contracts.listing.place.questions.ListingGraph.the-impl.{ghosts as listing-ghosts};
+ghost use Rattle.readers.specs.Graph.{listing-graph};
 ghost use Rattle.readers.specs.Place.{commandsIn, commandAt, Reads, Means};
 use crate::listing::Command;
 use crate::listing::ListingFault;
@@ -26,6 +28,7 @@ impl Listing {
     // The whole input is checked before the place is touched.
     pub fn read(&mut self, bytes: &[u8]) -> Result<(), ListingFault>
         ensures reads { λ r. ⌜ Reads (now (bytes .entry)) (commandsIn (now (self .entry))) r (commandsIn (now (self .exit))) ⌝ }
+        ensures graph { λ _. ⌜ listing-ghosts .meaning (now (self .exit)) ≡ listing-graph (commandsIn (now (self .exit))) ⌝ }
         ensures means { λ r. ⌜ Means (now (bytes .entry)) r (commandsIn (now (self .exit))) ⌝ }
     {
         check(bytes)?;

@@ -1,5 +1,5 @@
 -- Bytes that are not refused are few enough commands, and well formed.
-use mathlib.Core.Path.{sym, ap, _∙_}
+use mathlib.Core.Path.{refl, sym, ap, _∙_}
 use native.Mathlib.Omega.{arith}
 use Rattle.std.specs.Of.Vec.{vec-items}
 use Rattle.std.specs.declared.result.Result.the-variants.{Err}
@@ -21,10 +21,10 @@ ghost-self c = (
 pub returns : need.returns
 returns c =
     let h = reads-accepted (c .args .bytes .now) (vec-items (c .args .self .now .commands)) _ (c .in-Continue-check .ensures tt) (c .fill .ensures .items) in
-    record { reads = h; means = means _ _ _ _ (λ i. let fits = c .typed .bytes i in omega arith) h }
+    record { reads = h; graph = refl; means = means _ _ _ _ (λ i. let fits = c .typed .bytes i in omega arith) h }
 
 pub returns-in-Break-check : need.returns-in-Break-check
 returns-in-Break-check c =
     let p = err-from-errBy (c .from-residual .result) (c .from-residual .ensures .1) in
     let h = reads-refused (c .args .bytes .now) (vec-items (c .args .self .now .commands)) (c .from-residual .result) _ (p .1) (ap Err (p .2) ∙ c .in-Break-check .ensures tt) in
-    record { reads = h; means = means _ _ _ _ (λ i. let fits = c .typed .bytes i in omega arith) h }
+    record { reads = h; graph = refl; means = means _ _ _ _ (λ i. let fits = c .typed .bytes i in omega arith) h }
