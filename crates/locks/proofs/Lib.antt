@@ -1,5 +1,6 @@
 pub mod Comparing
 pub mod Distances
+pub mod Existence
 pub mod HeldLaws
 pub mod Interleaving
 pub mod LeastSum
