@@ -1,3 +1,4 @@
+pub mod Basics
 pub mod Comparing
 pub mod Distances
 pub mod Existence

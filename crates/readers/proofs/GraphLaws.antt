@@ -25,6 +25,7 @@ use Rattle.readers.specs.declared.listing.command.Command.the-variants.{Stop, 
 use Rattle.readers.specs.Encoding.{WellFormed, LockIsKnown, LeadsInside, MayEnd}
 use Rattle.readers.specs.Graph.{plain-to, steps-of, steps-from, listing-graph}
 use Rattle.readers.specs.Place.{commandAt}
+use Rattle.locks.proofs.Basics.{zero-one}
 
 pub length-steps : (n : ℕ) (cs : List Command) → length (steps-from n cs) ≡ length cs
 length-steps n [] = refl
@@ -43,9 +44,6 @@ pub steps-outside : (i : ℕ) (cs : List Command) → length cs ≤ i → steps-
 steps-outside i cs h = getD-past (steps-from 0 cs) i [] (let l = length-steps 0 cs in omega arith)
 
 -- what the look-up of a command says
-
-zero-one : {A : Type 0} → _≡_ {A = ℕ} 0 1 → A
-zero-one z = absurd (eqb-false 0 1 refl z)
 
 pub command-there : (cs : List Command) (n : ℕ) (c : Command) → Some c ≡ commandAt cs n → (n < length cs) × (c ≡ getD cs n Stop)
 command-there cs n c e =

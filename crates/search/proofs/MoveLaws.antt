@@ -20,6 +20,7 @@ use Rattle.locks.specs.Limits.{lock-limit}
 use Rattle.locks.specs.Schedules.{Names-step, graph-of}
 use Rattle.locks.specs.Together.{can, after, advance}
 use Rattle.search.specs.Playing.{Barred-step}
+use Rattle.locks.proofs.Basics.{some-none}
 
 known-in : (k : Kind) (l : ℕ) → l < lock-limit → known-by k l ≡ true
 known-in Plain l h = refl
@@ -37,13 +38,10 @@ known-step G H bG bH c n m s names = by (m .side) (names .there)
     by Left e = known-in (s .kind) (s .lock) (bG .steps-fit _ _ s e .lock-there)
     by Right e = known-in (s .kind) (s .lock) (bH .steps-fit _ _ s e .lock-there)
 
-not-some : {A : Type 0} (x : A) → None ≡ Some x → ⊥
-not-some x e = let z : _≡_ {A = ℕ} 0 1 = cc in absurd (Rattle.std.proofs.shelf.Tests.eqb-false 0 1 refl z)
-
 -- where no configuration follows, the step cannot be taken
 cannot : (side : Side) (s : Step) (c : Configuration) → None ≡ advance side s c → can side s c ≡ false
 cannot side s c e =
-    ⊎-elim (λ t. absurd (not-some (after side s c) (e ∙ cond-true (can side s c) _ None t))) (λ f. f) (cases-bool (can side s c))
+    ⊎-elim (λ t. some-none (after side s c) (sym (e ∙ cond-true (can side s c) _ None t))) (λ f. f) (cases-bool (can side s c))
 
 pub barred-step : (G H : Graph) → Bounded G → Bounded H → (c : Configuration) (n : ℕ) (m : Move) (s : Step) → Names-step G H c n m s
     → None ≡ cond (step-known s) (advance (m .side) s c) None → Barred-step G H c n

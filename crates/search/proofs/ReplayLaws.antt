@@ -29,12 +29,10 @@ use Rattle.search.specs.declared.replaying.ReplayFault.{ReplayFault}
 use Rattle.search.specs.declared.replaying.ReplayFault.the-variants as fault
 use Rattle.search.specs.Playing.{No-step, Barred-step, Made}
 use Rattle.search.specs.Replaying.{Stops, Elsewhere, Both-there, fault-at, Moves-say, Replay-says, Replayed}
+use Rattle.locks.proofs.Interleaving.{runs-more}
+use Rattle.locks.proofs.Basics.{some-none, some-some, nth-there}
 
 -- one move more at the end of a run
-
-runs-more : (G H : Graph) (c d e : Configuration) (ns : List ℕ) (n : ℕ) → Runs G H c ns d → Makes G H d n e → Runs G H c (ns ++ n ∷ []) e
-runs-more G H c d e [] n r m = (e, subst (λ x. Makes G H x n e) (sym r) m, refl)
-runs-more G H c d e (k ∷ ns) n r m = (r .0, r .1, runs-more G H (r .0) d e ns n (r .2) m)
 
 pub run-goes-on : (G H : Graph) (c d e : Configuration) (ns : List ℕ) (i : ℕ) → i < length ns → Runs G H c (take i ns) d → Makes G H d (getD ns i 0) e → Runs G H c (take (i + 1) ns) e
 run-goes-on G H c d e ns i h r m =
@@ -74,12 +72,6 @@ named-is : (G H : Graph) (c : Configuration) (n : ℕ) (m : Move) (s : Step) →
 unfolding made made-move made-step
 named-is G H c n m s h = ap (λ o. made-move G H o c) (h .named) ∙ ap (λ o. made-step o m c) (h .there)
 
-differ : {A : Type 0} (x : A) → Some x ≡ None → ⊥
-differ x e = let z : _≡_ {A = ℕ} 0 1 = cc in absurd (Rattle.std.proofs.shelf.Tests.eqb-false 0 1 refl z)
-
-inside : {A : Type 0} (x y : A) → Some x ≡ Some y → x ≡ y
-inside x y e = cc
-
 makes-is : (G H : Graph) (c d : Configuration) (n : ℕ) → Makes G H c n d → made G H c n ≡ Ok d
 makes-is G H c d n h =
     let side = h .move .side in
@@ -87,8 +79,8 @@ makes-is G H c d n h =
     let Y : Result Configuration MoveFault = Ok (after side s c) in
     ⊎-elim
     (λ t. named-is G H c n (h .move) s (h .names) ∙ cond-true (can side s c) Y (Err CannotBeTaken) t
-    ∙ ap {B = Result Configuration MoveFault} Ok (inside _ _ (sym (cond-true (can side s c) (Some (after side s c)) None t) ∙ h .taken)))
-    (λ f. absurd (differ d (sym (h .taken) ∙ cond-false (can side s c) (Some (after side s c)) None f)))
+    ∙ ap {B = Result Configuration MoveFault} Ok (some-some _ _ (sym (cond-true (can side s c) (Some (after side s c)) None t) ∙ h .taken)))
+    (λ f. some-none d (sym (h .taken) ∙ cond-false (can side s c) (Some (after side s c)) None f))
     (cases-bool (can side s c))
 
 barred-is : (G H : Graph) (c : Configuration) (n : ℕ) → Barred-step G H c n → made G H c n ≡ Err CannotBeTaken
@@ -139,11 +131,8 @@ play-whole G H a b c d ns r =
     ap (λ xs. play G H a b c 0 xs) (sym (append-nil ns)) ∙ play-runs G H a b c d 0 ns [] r
     ∙ ap (λ j. ended a b d j) (let e : 0 + length ns ≡ length ns = omega arith in e)
 
-nth-there : (ns : List ℕ) (i n : ℕ) → nth ns i ≡ Some n → i < length ns
-nth-there ns i n e = ⊎-elim (λ h. h) (λ h. absurd (differ n (sym e ∙ nth-past ns i h))) (cases-lt i (length ns))
-
 nth-is : (ns : List ℕ) (i n : ℕ) → nth ns i ≡ Some n → getD ns i 0 ≡ n
-nth-is ns i n e = inside _ _ (sym (nth-getD ns i 0 (nth-there ns i n e)) ∙ e)
+nth-is ns i n e = some-some _ _ (sym (nth-getD ns i 0 (nth-there ns i n e)) ∙ e)
 
 split-at : (ns : List ℕ) (i n : ℕ) → nth ns i ≡ Some n → ns ≡ take i ns ++ n ∷ drop (i + 1) ns
 split-at ns i n e =

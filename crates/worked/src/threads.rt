@@ -3,7 +3,7 @@ use std::alloc::AllocError;
 use std::alloc::Global;
 
 // Two ways into location 5: with lock 0 held, once with an empty history and once after lock 1.
-pub const TWO_WAYS: [u8; 15] = [
+pub(crate) const TWO_WAYS: [u8; 15] = [
     0x02,
     0,
     0x05,
@@ -22,23 +22,23 @@ pub const TWO_WAYS: [u8; 15] = [
 ];
 
 // Lock 0 is held while lock 1 is taken and given back, and the other way round.
-pub const INNER_ONE: [u8; 7] = [0x02, 0, 0x02, 1, 0x03, 1, 0x00];
+pub(crate) const INNER_ONE: [u8; 7] = [0x02, 0, 0x02, 1, 0x03, 1, 0x00];
 
-pub const INNER_ZERO: [u8; 7] = [0x02, 1, 0x02, 0, 0x03, 0, 0x00];
+pub(crate) const INNER_ZERO: [u8; 7] = [0x02, 1, 0x02, 0, 0x03, 0, 0x00];
 
-pub const OUTER_GIVEN_FIRST: [u8; 7] = [0x02, 0, 0x02, 1, 0x03, 0, 0x00];
+pub(crate) const OUTER_GIVEN_FIRST: [u8; 7] = [0x02, 0, 0x02, 1, 0x03, 0, 0x00];
 
-pub const FIVE_TAKEN: [u8; 11] = [0x02, 0, 0x02, 1, 0x02, 2, 0x02, 3, 0x02, 4, 0x00];
+pub(crate) const FIVE_TAKEN: [u8; 11] = [0x02, 0, 0x02, 1, 0x02, 2, 0x02, 3, 0x02, 4, 0x00];
 
-pub const FOUR_TAKEN: [u8; 9] = [0x02, 0, 0x02, 1, 0x02, 2, 0x02, 3, 0x00];
+pub(crate) const FOUR_TAKEN: [u8; 9] = [0x02, 0, 0x02, 1, 0x02, 2, 0x02, 3, 0x00];
 
-pub const GIVEN_UNTAKEN: [u8; 3] = [0x03, 0, 0x00];
+pub(crate) const GIVEN_UNTAKEN: [u8; 3] = [0x03, 0, 0x00];
 
-pub const TAKEN_TWICE: [u8; 5] = [0x02, 0, 0x02, 0, 0x00];
+pub(crate) const TAKEN_TWICE: [u8; 5] = [0x02, 0, 0x02, 0, 0x00];
 
 // `passes` plain steps, then lock 0 or not and lock 1 or not, then `shared` locations, each reached in
 // four ways: passes + 6 + 4 * shared states.
-pub fn four_ways(heap: Global, passes: u8, shared: u8) -> Result<Vec<u8>, AllocError> {
+pub(crate) fn four_ways(heap: Global, passes: u8, shared: u8) -> Result<Vec<u8>, AllocError> {
     let mut bytes = Vec::new(heap);
     for _ in 0..passes {
         bytes.push(0x01)?;
@@ -56,7 +56,7 @@ pub fn four_ways(heap: Global, passes: u8, shared: u8) -> Result<Vec<u8>, AllocE
 }
 
 // Lock 0 taken or not, then 509 plain steps: two states at nearly each of 512 locations.
-pub fn wide(heap: Global) -> Result<Vec<u8>, AllocError> {
+pub(crate) fn wide(heap: Global) -> Result<Vec<u8>, AllocError> {
     let mut bytes = Vec::new(heap);
     bytes.extend_from_slice(&[0x05, 0, 1, 0, 2, 0x02, 0])?;
     for _ in 0..509 {
@@ -68,7 +68,7 @@ pub fn wide(heap: Global) -> Result<Vec<u8>, AllocError> {
 
 // Lock 0 is held while locks 1 to `most` are taken and given back in any order: every set of them is a
 // history of lock 0 at the first choice, and at `tail` locations behind the last.
-pub fn crowded(heap: Global, most: u8, tail: u8) -> Result<Vec<u8>, AllocError> {
+pub(crate) fn crowded(heap: Global, most: u8, tail: u8) -> Result<Vec<u8>, AllocError> {
     let mut bytes = Vec::new(heap);
     bytes.extend_from_slice(&[0x02, 0])?;
     for lock in 1..most.saturating_add(1) {
