@@ -1,4 +1,4 @@
--- What is known of bytes that are not refused. Assumes nothing.
+-- What is known of bytes that are not refused.
 use mathlib.Core.Path.{_≡_, refl, sym, ap, subst, _∙_}
 use mathlib.Core.Bool.{Bool, true, false, not, cond}
 use mathlib.Core.List.{List, [], _∷_, _++_}

@@ -1,4 +1,4 @@
--- A command that cannot be taken off the bytes, and why. Assumes nothing.
+-- A command that cannot be taken off the bytes, and why.
 use mathlib.Core.Path.{_≡_, refl, ap, subst}
 use mathlib.Core.Bool.{true}
 use mathlib.Core.List.{List, [], _∷_}

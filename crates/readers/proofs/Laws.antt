@@ -1,4 +1,4 @@
--- The law of listings: they are their commands, written one after another. Assumes nothing.
+-- The law of listings: they are their commands, written one after another.
 use mathlib.Core.Path.{_≡_, refl, sym, ap, subst, _∙_}
 use mathlib.Core.Bool.{Bool, true, false, not, cond}
 use mathlib.Core.List.{List, [], _∷_, _++_}

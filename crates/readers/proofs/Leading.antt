@@ -1,4 +1,4 @@
--- Where a run leads outside, or on past its end. Assumes nothing.
+-- Where a run leads outside, or on past its end.
 use mathlib.Core.Path.{_≡_, refl, ap, subst, _∙_}
 use mathlib.Core.Bool.{Bool, true, false, not, cond}
 use mathlib.Core.List.{List, [], _∷_, _++_}

@@ -1,4 +1,4 @@
--- A reading by the specification is one in the subject's words. Assumes nothing.
+-- A reading by the specification is one in the subject's words.
 use mathlib.Core.Path.{_≡_, refl, sym, ap, subst, _∙_}
 use mathlib.Core.List.{List}
 use Prim.Native.Nat.{ℕ, _<_}

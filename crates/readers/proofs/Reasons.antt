@@ -1,4 +1,4 @@
--- Each refusal and its reason. Assumes nothing.
+-- Each refusal and its reason.
 use mathlib.Core.Path.{_≡_, refl, sym, ap, subst, _∙_}
 use mathlib.Core.List.{List, [], _∷_, _++_, append-assoc}
 use mathlib.Core.Logic.{_⊎_, inl, inr}

@@ -1,4 +1,4 @@
--- Small facts that the proofs on refusals share. Assumes nothing.
+-- Small facts that the proofs on refusals share.
 use mathlib.Core.Path.{_≡_, refl}
 use lib.ListN.{length}
 use Rattle.std.specs.declared.result.Result.{Result}

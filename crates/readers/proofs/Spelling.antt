@@ -1,4 +1,4 @@
--- The bytes that a command was read from. Assumes nothing.
+-- The bytes that a command was read from.
 use mathlib.Core.Path.{_≡_, refl, ap, subst}
 use mathlib.Core.List.{List, [], _∷_}
 use Prim.Native.Nat.{ℕ, _+_, _*_, _≤_, _<_}

@@ -1,4 +1,4 @@
--- One command taken off the bytes, as the specifications say it. Assumes nothing.
+-- One command taken off the bytes, as the specifications say it.
 use mathlib.Core.Path.{_≡_, refl, sym, ap, _∙_}
 use mathlib.Core.List.{List, [], _∷_}
 use Prim.Native.Nat.{ℕ, zero, suc, pred, _+_, _≤_, _<_}

@@ -1,4 +1,4 @@
--- Where bytes stop being commands. Assumes nothing.
+-- Where bytes stop being commands.
 use mathlib.Core.Path.{_≡_, refl, sym, ap, subst, _∙_}
 use mathlib.Core.List.{List, [], _∷_, _++_, append-assoc}
 use Prim.Native.Nat.{ℕ, zero, suc, pred, _+_, _≤_, _<_}

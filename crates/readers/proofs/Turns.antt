@@ -1,4 +1,4 @@
--- What one turn of each pass keeps. Assumes nothing.
+-- What one turn of each pass keeps.
 use mathlib.Core.Path.{_≡_, refl, sym, ap, _∙_}
 use mathlib.Core.List.{List, [], _∷_, _++_, append-assoc}
 use Prim.Native.Nat.{ℕ, _+_, _-_, _≤_, _<_}

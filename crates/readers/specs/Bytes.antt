@@ -1,4 +1,4 @@
--- What the bytes of a listing say. Assumes nothing.
+-- What the bytes of a listing say.
 use mathlib.Core.Path.{_≡_}
 use mathlib.Core.Bool.{cond}
 use mathlib.Core.List.{List, [], _∷_}

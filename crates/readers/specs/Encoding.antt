@@ -1,4 +1,4 @@
--- Listings in the subject's words: how commands are written, and which runs of commands are well formed. Assumes nothing.
+-- Listings in the subject's words: how commands are written, and which runs of commands are well formed.
 use mathlib.Core.Path.{_≡_}
 use mathlib.Core.List.{List, [], _∷_, _++_}
 use Prim.Native.Nat.{ℕ, _/_, _%_, _≤_, _<_}

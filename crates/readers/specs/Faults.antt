@@ -1,4 +1,4 @@
--- The refusals of a listing. Assumes nothing.
+-- The refusals of a listing.
 use Prim.Native.Nat.{ℕ}
 use Rattle.locks.specs.declared.refusals.Part.the-variants.{Listing}
 use Rattle.locks.specs.declared.refusals.Refusal.{Refusal}

@@ -1,4 +1,4 @@
--- Where the commands of a run lead. Assumes nothing.
+-- Where the commands of a run lead.
 use mathlib.Core.Bool.{Bool, true, false, not, cond, _&&_}
 use mathlib.Core.List.{List, [], _∷_}
 use Prim.Native.Nat.{ℕ, _+_}

@@ -1,4 +1,4 @@
--- What the place of a listing holds, before and after a reading. Assumes nothing.
+-- What the place of a listing holds, before and after a reading.
 use mathlib.Core.Path.{_≡_}
 use mathlib.Core.Bool.{cond}
 use mathlib.Core.List.{List}

@@ -1,4 +1,4 @@
--- What a whole listing says. Assumes nothing.
+-- What a whole listing says.
 use mathlib.Core.Bool.{cond}
 use mathlib.Core.List.{List, [], _∷_}
 use Prim.Native.Nat.{ℕ, zero, suc, pred}

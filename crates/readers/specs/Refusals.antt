@@ -1,4 +1,4 @@
--- Why bytes are refused, in the subject's words. Assumes nothing.
+-- Why bytes are refused, in the subject's words.
 use mathlib.Core.Path.{_≡_}
 use mathlib.Core.Bool.{cond}
 use mathlib.Core.List.{List, [], _∷_, _++_}

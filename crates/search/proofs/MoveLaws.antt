@@ -19,7 +19,7 @@ use Rattle.locks.specs.Graphs.{Graph, Bounded, Step-fits}
 use Rattle.locks.specs.Limits.{lock-limit}
 use Rattle.locks.specs.Schedules.{Names-step, graph-of}
 use Rattle.locks.specs.Together.{can, after, advance}
-use Rattle.search.specs.Playing.{Barred-step}
+use Rattle.search.specs.Playing.{Blocked-step}
 use Rattle.locks.proofs.Basics.{some-none}
 
 known-in : (k : Kind) (l : ℕ) → l < lock-limit → known-by k l ≡ true
@@ -43,9 +43,9 @@ cannot : (side : Side) (s : Step) (c : Configuration) → None ≡ advance side 
 cannot side s c e =
     ⊎-elim (λ t. some-none (after side s c) (sym (e ∙ cond-true (can side s c) _ None t))) (λ f. f) (cases-bool (can side s c))
 
-pub barred-step : (G H : Graph) → Bounded G → Bounded H → (c : Configuration) (n : ℕ) (m : Move) (s : Step) → Names-step G H c n m s
-    → None ≡ cond (step-known s) (advance (m .side) s c) None → Barred-step G H c n
-barred-step G H bG bH c n m s names e =
+pub blocked-step : (G H : Graph) → Bounded G → Bounded H → (c : Configuration) (n : ℕ) (m : Move) (s : Step) → Names-step G H c n m s
+    → None ≡ cond (step-known s) (advance (m .side) s c) None → Blocked-step G H c n
+blocked-step G H bG bH c n m s names e =
     record {
       move = m;
       step = s;

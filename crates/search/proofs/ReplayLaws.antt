@@ -27,7 +27,7 @@ use Rattle.search.specs.declared.playing.MoveFault.{MoveFault}
 use Rattle.search.specs.declared.playing.MoveFault.the-variants.{NoStep, CannotBeTaken}
 use Rattle.search.specs.declared.replaying.ReplayFault.{ReplayFault}
 use Rattle.search.specs.declared.replaying.ReplayFault.the-variants as fault
-use Rattle.search.specs.Playing.{No-step, Barred-step, Made}
+use Rattle.search.specs.Playing.{No-step, Blocked-step, Made}
 use Rattle.search.specs.Replaying.{Stops, Elsewhere, Both-there, fault-at, Moves-say, Replay-says, Replayed}
 use Rattle.locks.proofs.Interleaving.{runs-more}
 use Rattle.locks.proofs.Basics.{some-none, some-some, nth-there}
@@ -48,7 +48,7 @@ stops G H ns i d Why h r w =
 stops-by : (G H : Graph) (ns : List ℕ) (i : ℕ) (d : Configuration) (f : MoveFault) → i < length ns → Runs G H (from-starts G H) (take i ns) d → Made G H d (getD ns i 0) (Err f)
     → Moves-say G H ns (Err (fault-at f i))
 stops-by G H ns i d NoStep h r m = stops G H ns i d (No-step G H) h r m
-stops-by G H ns i d CannotBeTaken h r m = stops G H ns i d (Barred-step G H) h r m
+stops-by G H ns i d CannotBeTaken h r m = stops G H ns i d (Blocked-step G H) h r m
 
 pub stops-there : (G H : Graph) (ns : List ℕ) (i : ℕ) (d : Configuration) (f : MoveFault) (s : ReplayFault) → i < length ns → Runs G H (from-starts G H) (take i ns) d → Made G H d (getD ns i 0) (Err f)
     → s ≡ fault-at f i → Moves-say G H ns (Err s)
@@ -83,8 +83,8 @@ makes-is G H c d n h =
     (λ f. some-none d (sym (h .taken) ∙ cond-false (can side s c) (Some (after side s c)) None f))
     (cases-bool (can side s c))
 
-barred-is : (G H : Graph) (c : Configuration) (n : ℕ) → Barred-step G H c n → made G H c n ≡ Err CannotBeTaken
-barred-is G H c n h =
+blocked-is : (G H : Graph) (c : Configuration) (n : ℕ) → Blocked-step G H c n → made G H c n ≡ Err CannotBeTaken
+blocked-is G H c n h =
     named-is G H c n (h .move) (h .step) (h .names) ∙ cond-false (can (h .move .side) (h .step) c) (Ok (after (h .move .side) (h .step) c)) (Err CannotBeTaken) (h .cannot)
 
 absent-step : (G H : Graph) (c : Configuration) (n : ℕ) → No-step G H c n → (m : Move) (o : Option Step) → move-named n ≡ Some m
@@ -189,7 +189,7 @@ says-answer G H a b ns (Err (fault.NoLocation Right)) h =
 says-answer G H a b ns (Err (fault.NoStep i)) h =
     sym (both-answer G H a b ns (h .0) ∙ play-stops G H a b ns i (No-step G H) NoStep (h .1) (absent-is G H (h .1 .here) (h .1 .n) (h .1 .why)))
 says-answer G H a b ns (Err (fault.CannotBeTaken i)) h =
-    sym (both-answer G H a b ns (h .0) ∙ play-stops G H a b ns i (Barred-step G H) CannotBeTaken (h .1) (barred-is G H (h .1 .here) (h .1 .n) (h .1 .why)))
+    sym (both-answer G H a b ns (h .0) ∙ play-stops G H a b ns i (Blocked-step G H) CannotBeTaken (h .1) (blocked-is G H (h .1 .here) (h .1 .n) (h .1 .why)))
 says-answer G H a b ns (Err (fault.EndsElsewhere n)) h =
     ap {B = Answer} (λ m. Err (fault.EndsElsewhere m)) (h .2)
     ∙ sym (both-answer G H a b ns (h .0) ∙ play-whole G H a b _ (h .1 .last) ns (h .1 .runs) ∙ ended-other a b (h .1 .last) (length ns) (h .1 .other))

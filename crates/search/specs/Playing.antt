@@ -18,7 +18,7 @@ abbrev pub No-step : Graph → Graph → Configuration → ℕ → Type 0
 No-step G H c n = (m : Move) (s : Step) → Names-step G H c n m s → ⊥
 
 -- the step is there, and cannot be taken
-pub record Barred-step (G H : Graph) (c : Configuration) (n : ℕ) : Type 0 where
+pub record Blocked-step (G H : Graph) (c : Configuration) (n : ℕ) : Type 0 where
   pub move : Move
   pub step : Step
   pub names : Names-step G H c n move step
@@ -27,4 +27,4 @@ pub record Barred-step (G H : Graph) (c : Configuration) (n : ℕ) : Type 0 wher
 abbrev pub Made : Graph → Graph → Configuration → ℕ → Result Configuration MoveFault → Type 0
 Made G H c n (Ok d) = Makes G H c n d
 Made G H c n (Err NoStep) = No-step G H c n
-Made G H c n (Err CannotBeTaken) = Barred-step G H c n
+Made G H c n (Err CannotBeTaken) = Blocked-step G H c n

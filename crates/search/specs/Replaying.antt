@@ -17,7 +17,7 @@ use Rattle.search.specs.declared.playing.MoveFault.{MoveFault}
 use Rattle.search.specs.declared.playing.MoveFault.the-variants as moves
 use Rattle.search.specs.declared.replaying.ReplayFault.{ReplayFault}
 use Rattle.search.specs.declared.replaying.ReplayFault.the-variants.{NoLocation, NoStep, CannotBeTaken, EndsElsewhere}
-use Rattle.search.specs.Playing.{No-step, Barred-step}
+use Rattle.search.specs.Playing.{No-step, Blocked-step}
 
 -- the number, the place and the part of each refusal
 abbrev pub replay-refusal : ReplayFault → Refusal
@@ -51,7 +51,7 @@ abbrev pub Moves-say : Graph → Graph → List ℕ → Result Configuration Rep
 Moves-say G H ns (Ok c) = Runs G H (from-starts G H) ns c
 Moves-say G H ns (Err (NoLocation s)) = ⊥
 Moves-say G H ns (Err (NoStep i)) = Stops G H ns i (No-step G H)
-Moves-say G H ns (Err (CannotBeTaken i)) = Stops G H ns i (Barred-step G H)
+Moves-say G H ns (Err (CannotBeTaken i)) = Stops G H ns i (Blocked-step G H)
 Moves-say G H ns (Err (EndsElsewhere n)) = ⊥
 
 abbrev pub Both-there : Graph → Graph → ℕ → ℕ → Type 0
@@ -63,7 +63,7 @@ Replay-says G H a b ns (Ok _) = Both-there G H a b × Replays G H a b ns
 Replay-says G H a b ns (Err (NoLocation Left)) = locations G ≤ a
 Replay-says G H a b ns (Err (NoLocation Right)) = (a < locations G) × (locations H ≤ b)
 Replay-says G H a b ns (Err (NoStep i)) = Both-there G H a b × Stops G H ns i (No-step G H)
-Replay-says G H a b ns (Err (CannotBeTaken i)) = Both-there G H a b × Stops G H ns i (Barred-step G H)
+Replay-says G H a b ns (Err (CannotBeTaken i)) = Both-there G H a b × Stops G H ns i (Blocked-step G H)
 Replay-says G H a b ns (Err (EndsElsewhere n)) = Both-there G H a b × Elsewhere G H a b ns × (n ≡ length ns)
 
 -- the answer is the one whose condition holds, and no other answer's condition does

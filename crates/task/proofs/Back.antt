@@ -1,4 +1,4 @@
--- A task that is written is read back. Assumes nothing.
+-- A task that is written is read back.
 use mathlib.Core.Path.{_≡_, refl, ap}
 use mathlib.Core.Bool.{Bool, true}
 use mathlib.Core.List.{List, [], _∷_, _++_, map}

@@ -1,4 +1,4 @@
--- A text cut before its first LF, and a line before its first space. Assumes nothing.
+-- A text cut before its first LF, and a line before its first space.
 use mathlib.Core.Path.{_≡_, refl, sym, ap, _∙_}
 use mathlib.Core.Bool.{true, false, cond}
 use mathlib.Core.List.{List, [], _∷_}

@@ -1,4 +1,4 @@
--- A number read digit by digit, and a move by its side. Assumes nothing.
+-- A number read digit by digit, and a move by its side.
 use mathlib.Core.Path.{_≡_, refl, sym, ap, _∙_}
 use mathlib.Core.Bool.{true, false, _&&_}
 use mathlib.Core.List.{List, [], _∷_}

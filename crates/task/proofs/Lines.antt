@@ -1,4 +1,4 @@
--- A line by its keyword and its items. Assumes nothing.
+-- A line by its keyword and its items.
 use mathlib.Core.Path.{_≡_}
 use mathlib.Core.Bool.{false}
 use mathlib.Core.List.{List, [], _∷_, _++_}

@@ -1,4 +1,4 @@
--- Pieces that lack the byte between them are found again. Assumes nothing.
+-- Pieces that lack the byte between them are found again.
 use mathlib.Core.Path.{_≡_, refl, ap, _∙_}
 use mathlib.Core.Bool.{Bool, true, false, not, _&&_}
 use mathlib.Core.List.{List, [], _∷_, _++_, append-nil}

@@ -1,4 +1,4 @@
--- What a text spells is a proper task. Assumes nothing.
+-- What a text spells is a proper task.
 use mathlib.Core.Path.{_≡_, refl, sym, ap, subst, _∙_}
 use mathlib.Core.Bool.{true, cond, _&&_}
 use mathlib.Core.List.{List, [], _∷_, _++_}

@@ -1,4 +1,4 @@
--- A byte, a number and a move that are written are read back. Assumes nothing.
+-- A byte, a number and a move that are written are read back.
 use mathlib.Core.Path.{_≡_, refl, sym, ap, _∙_}
 use mathlib.Core.Bool.{true}
 use mathlib.Core.List.{List, [], _∷_, _++_, map, append-nil, append-assoc}

@@ -1,4 +1,4 @@
--- The four lines of a text, one after the other. Assumes nothing.
+-- The four lines of a text, one after the other.
 use mathlib.Core.Path.{_≡_, refl, sym, ap, _∙_}
 use mathlib.Core.List.{List, [], _∷_}
 use Prim.Native.Nat.{ℕ, _<_}

@@ -1,4 +1,4 @@
--- What each fault is called. Assumes nothing.
+-- What each fault is called.
 use mathlib.Core.List.{List}
 use Prim.Native.Nat.{ℕ}
 use lib.Chars.{codes}

@@ -1,4 +1,4 @@
--- What a place holds. Assumes nothing.
+-- What a place holds.
 use mathlib.Core.List.{[]}
 use Rattle.std.specs.Of.Vec.{vec-items}
 use Rattle.std.specs.declared.result.Result.{Result}

@@ -1,4 +1,4 @@
--- How a text falls into lines, and a line into words. Assumes nothing.
+-- How a text falls into lines, and a line into words.
 use mathlib.Core.Bool.{cond}
 use mathlib.Core.List.{List, [], _∷_}
 use Prim.Native.Nat.{ℕ, suc}

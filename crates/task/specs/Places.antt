@@ -1,4 +1,4 @@
--- The task that a place shows. Assumes nothing.
+-- The task that a place shows.
 use Rattle.task.specs.declared.place.Task.{Task}
 use Rattle.task.specs.Held.{contentOf}
 use Rattle.task.specs.Spelled.{TaskValue}

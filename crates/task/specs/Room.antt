@@ -1,4 +1,4 @@
--- The room of a list: at most 4096 items, in memory that is reserved. Assumes nothing.
+-- The room of a list: at most 4096 items, in memory that is reserved.
 use Prim.Native.Nat.{_≤_}
 use Rattle.std.specs.Of.Vec.{vec-cap, vec-len}
 use Rattle.std.specs.declared.vec.Vec.{Vec}

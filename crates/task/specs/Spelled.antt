@@ -1,4 +1,4 @@
--- What task a text spells, or its first fault. Assumes nothing.
+-- What task a text spells, or its first fault.
 use mathlib.Core.Bool.{cond}
 use mathlib.Core.List.{List, [], _∷_, _++_}
 use Prim.Native.Nat.{ℕ}

@@ -1,4 +1,4 @@
--- What a single word spells: a number, a byte or a move. Assumes nothing.
+-- What a single word spells: a number, a byte or a move.
 use mathlib.Core.Bool.{Bool, cond, _&&_}
 use mathlib.Core.List.{List, [], _∷_}
 use Prim.Native.Nat.{ℕ, _+_, _-_, _*_}

@@ -1,4 +1,4 @@
--- How a task is written, and that it is read back. Assumes nothing.
+-- How a task is written, and that it is read back.
 use mathlib.Core.Path.{_≡_}
 use mathlib.Core.Bool.{Bool, true, false, cond}
 use mathlib.Core.List.{List, [], _∷_, _++_, map}
