@@ -88,6 +88,7 @@ fn heavy(rt: &LibcRuntime) -> Result<(), AnyError> {
     )?;
     count(rt, "wide", threads::wide(heap)?.as_slice())?;
     count(rt, "crowded", threads::crowded(heap, 5, 16)?.as_slice())?;
+    count(rt, "tangled", &threads::TANGLED)?;
     count(rt, "too crowded", threads::crowded(heap, 7, 1)?.as_slice())
 }
 
@@ -152,19 +153,21 @@ fn times(rt: &LibcRuntime) -> Result<(), AnyError> {
     )?;
     time(rt, "wide", threads::wide(heap)?.as_slice())?;
     time(rt, "crowded", threads::crowded(heap, 5, 16)?.as_slice())?;
+    time(rt, "tangled", &threads::TANGLED)?;
     time(rt, "too-crowded", threads::crowded(heap, 7, 1)?.as_slice())
 }
 
-// Nanoseconds for one summary, on the average.
+// Nanoseconds for one summary, on the average, and the number of its states: 0 where it is refused.
 fn time(rt: &LibcRuntime, name: &str, bytes: &[u8]) -> Result<(), AnyError> {
     let Some(mut folder) = folder(rt, bytes)? else {
         return Ok(());
     };
     let start = Instant::now(rt)?;
+    let mut states = 0;
     for _ in 0..ROUNDS {
-        let _ = folder.summarise();
+        states = folder.summarise().unwrap_or(0);
     }
     let nanos = start.elapsed(rt)?.as_nanos() / u128::from(ROUNDS);
-    println!(rt, "{name} {nanos}")?;
+    println!(rt, "{name} {nanos} {states}")?;
     Ok(())
 }
