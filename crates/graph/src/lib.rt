@@ -1,4 +1,6 @@
 // Thread graphs: every kind of graph answers the same four questions.
+#![tactic(auto)]
+
 ghost use Rattle.std.specs.Prelude.{length, ◌≡◌};
 ghost use Rattle.locks.specs.Graphs.{Graph, Bounded, locations, steps_at, step_at};
 

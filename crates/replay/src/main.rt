@@ -1,4 +1,6 @@
 // Reads what a replay is about from standard input, and prints the replay move by move.
+#![tactic(auto)]
+
 mod showing;
 
 use graph::ThreadGraph;

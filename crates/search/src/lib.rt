@@ -1,4 +1,6 @@
 // The weighing of two locked states, folders over any kind of thread graph with their summaries, moves and replay.
+#![tactic(auto)]
+
 pub mod entries;
 pub mod faults;
 pub mod folders;

@@ -8,6 +8,8 @@
 // A listing, left or right, has up to 4096 bytes of two hexadecimal digits. The pair is two numbers below 2^32, the
 // locations of the left and the right side. Up to 4096 moves follow: `L` and a number up to 255, or `R` and a number up
 // to 65279, whose move is 256 more. One space stands before each item, and no other.
+#![tactic(auto)]
+
 mod content;
 mod fault;
 mod laws;

@@ -1,4 +1,6 @@
 // Summaries and replays of worked threads. With the argument `times`, how long those of the heavy ones take.
+#![tactic(auto)]
+
 mod threads;
 
 use readers::listing::Listing;
