@@ -3,11 +3,11 @@ use Rattle.search.proofs.ReplayLaws.{run_goes_on, run_ends, stops_there}
 use Rattle.search.proofs.replaying.make_moves.Goals as goal
 
 pub loop-place-init : goal.loop-place-init
-loop-place-init g c = sym c.at-starts-reached.ensures
+loop-place-init g c = sym c.at_starts-reached.ensures
 
 pub returns-in-Err : goal.returns-in-Err
 returns-in-Err g c =
-    stops_there _ _ _ _ _ c.in-Err.fault _ c.loop-place-test.true c.loop-place.invariant c.in-Err.ensures c.fault_at_lem.ensures
+    stops_there _ _ _ _ _ c.in-Err.fault _ c.loop-place-test.true c.loop-place.invariant c.in-Err.ensures c.fault_at.ensures
 
 pub loop-place-preserved : goal.loop-place-preserved
 loop-place-preserved g c =
