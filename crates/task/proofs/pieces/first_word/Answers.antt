@@ -4,8 +4,8 @@ use Rattle.task.proofs.pieces.first_word.Goals as goal
 
 pub returns : goal.returns
 returns c =
-    let parts = c.split-at.ensures in
+    let parts = c.split_at.ensures in
     record {
-      value = word_off c.args.line.now _ _ c.count-before.result c.count-before.ensures.value parts.front parts.back;
+      value = word_off c.args.line.now _ _ c.count_before.result c.count_before.ensures.value parts.front parts.back;
       bound = omega (arith, parts.back_len);
     }
