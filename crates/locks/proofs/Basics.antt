@@ -1,5 +1,5 @@
 -- Small facts that many proofs use.
-use Rattle.std.proofs.Common.{◌≡◌, ℕ, ◌<◌, List, length, Some, None, Option, refl, ⊎_elim}
+use Rattle.std.proofs.Common.{◌≡◌, ℕ, ◌<◌, List, length, Some, None, refl, ⊎_elim}
 use Rattle.std.proofs.lemmas.Option.{slice_get_past as nth_past}
 use Rattle.std.proofs.lemmas.Bool.{cases_lt, eqb-false}
 use Rattle.std.specs.List.{slice_get}

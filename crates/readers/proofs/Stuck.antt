@@ -14,7 +14,7 @@ use Rattle.readers.specs.Reading.{highest, go_on, broken}
 use Rattle.readers.specs.Refusals.{WrongThere, WrongBytes, Refused}
 use Rattle.readers.specs.Spelling.{spelt}
 use Rattle.readers.specs.Steps.{width_some}
-use Rattle.readers.specs.Accepted.{lock_known, spelt_written, width_drop, locks_known}
+use Rattle.readers.specs.Accepted.{lock_known, spelt_written, width_drop}
 use Rattle.readers.specs.Laws.{knows_lock}
 use Rattle.readers.proofs.Failing.{first_fails}
 use Rattle.readers.proofs.Sizes.{width_written, same_fault}

@@ -1,11 +1,10 @@
 -- The graph of a well_formed run of commands keeps the bounds, and its questions are answered command by command.
-use Rattle.std.specs.Prelude.{◌≡◌, ℕ, zero, suc, ◌+◌, ◌-◌, ◌<◌, ◌≤◌, true, false, cond, ◌⊎◌, List, [], ◌∷◌, ◌++◌, length, get_or, Some, None, Option, nat_lt, slice_index_or, refl}
+use Rattle.std.specs.Prelude.{◌≡◌, ℕ, zero, suc, ◌+◌, ◌<◌, ◌≤◌, ◌⊎◌, List, [], ◌∷◌, length, get_or, Some, None, nat_lt, slice_index_or, refl}
 use Rattle.std.proofs.Common.{zero-add, arith, inl, inr, ⊎_elim, sym, ap, subst, ◌∙◌}
 use Rattle.std.proofs.ByRecursion.{All-get_or}
 use Rattle.std.proofs.lemmas.List.{get_or_past, get_or_push, length_push}
-use Rattle.std.proofs.lemmas.Option.{slice_get_past}
-use Rattle.std.proofs.lemmas.Bool.{cases_Bool, cases_lt, cases_eq, cond-true, cond-false, ltb-true, ltb-false, eqb-false}
-use Rattle.std.specs.List.{slice_get, AllByRecursion as All}
+use Rattle.std.proofs.lemmas.Bool.{cases_Bool, cases_lt, cond-true, cond-false, ltb-true, ltb-false}
+use Rattle.std.specs.List.{slice_get}
 use Rattle.locks.specs.declared.steps.Kind.TheVariants as kind
 use Rattle.locks.specs.declared.steps.Step.{Step}
 use Rattle.locks.specs.Graphs.{Graph, Bounded, StepFits, locations, steps_at, step_at}

@@ -1,5 +1,5 @@
 -- Steps of a bounded graph, and the moves that name them.
-use Rattle.std.proofs.Common.{◌≡◌, ℕ, ◌<◌, Bool, true, false, cond, ltb, Some, None, Option, sym, refl, ap, ◌∙◌, ⊎_elim}
+use Rattle.std.proofs.Common.{◌≡◌, ℕ, ◌<◌, true, false, cond, Some, None, sym, refl, ◌∙◌, ⊎_elim}
 use Rattle.std.proofs.lemmas.Bool.{lt-ltb, cases_Bool, cond-true}
 use Rattle.locks.specs.Alone.{step_known, known_by}
 use Rattle.locks.specs.declared.moves.Move.{Move}

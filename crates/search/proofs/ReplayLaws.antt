@@ -1,8 +1,8 @@
 -- Runs of moves, and that a replay has one answer.
-use Rattle.std.proofs.Common.{◌≡◌, ℕ, zero, suc, ◌+◌, ◌<◌, ◌≤◌, Bool, true, false, cond, ◌&&◌, eqb, ltb, ◌⊎◌, List, [], ◌∷◌, ◌++◌, length, get_or, take, drop, Some, None, Ok, Err, Option, Result, sym, refl, ap, ◌∙◌, subst, inl, inr, ⊎_elim, append-nil, arith}
+use Rattle.std.proofs.Common.{◌≡◌, ℕ, suc, ◌+◌, ◌<◌, ◌≤◌, cond, ◌&&◌, eqb, ltb, List, [], ◌∷◌, ◌++◌, length, get_or, take, drop, Some, None, Ok, Err, Option, Result, sym, refl, ap, ◌∙◌, subst, ⊎_elim, append-nil, arith}
 use Rattle.std.proofs.lemmas.List.{take_more, take_all, length-take-le, take-append-drop, drop_more}
-use Rattle.std.proofs.lemmas.Option.{slice_get-get_or, slice_get_past}
-use Rattle.std.proofs.lemmas.Bool.{eq-eqb, ne_eqb, eqb-true, cases_Bool, cases_lt, lt-ltb, le-ltb, cond-true, cond-false, and_from, and_parts, both_ways}
+use Rattle.std.proofs.lemmas.Option.{slice_get-get_or}
+use Rattle.std.proofs.lemmas.Bool.{eq-eqb, eqb-true, cases_Bool, lt-ltb, le-ltb, cond-true, cond-false, and_from, and_parts}
 use Rattle.std.specs.List.{slice_get}
 use Rattle.locks.specs.declared.moves.Move.{Move}
 use Rattle.locks.specs.declared.steps.Step.{Step}
@@ -10,14 +10,14 @@ use Rattle.locks.specs.declared.together.Configuration.{Configuration}
 use Rattle.locks.specs.declared.together.Side.TheVariants.{Left, Right}
 use Rattle.locks.specs.Graphs.{Graph, locations, step_at}
 use Rattle.locks.specs.Moves.{move_named}
-use Rattle.locks.specs.Schedules.{NamesStep, Makes, Runs, Replays, from_starts, graph_of}
-use Rattle.locks.specs.Together.{can, after, advance, position_of}
+use Rattle.locks.specs.Schedules.{NamesStep, Makes, Runs, from_starts, graph_of}
+use Rattle.locks.specs.Together.{can, after, position_of}
 use Rattle.search.specs.declared.playing.MoveFault.{MoveFault}
 use Rattle.search.specs.declared.playing.MoveFault.TheVariants.{NoStep, CannotBeTaken}
 use Rattle.search.specs.declared.replaying.ReplayFault.{ReplayFault}
 use Rattle.search.specs.declared.replaying.ReplayFault.TheVariants as fault
 use Rattle.search.specs.Playing.{NoSuchStep, BlockedStep, Made}
-use Rattle.search.specs.Replaying.{Stops, Elsewhere, BothThere, fault_at_lem, MovesSay, ReplaySays, Replayed}
+use Rattle.search.specs.Replaying.{Stops, BothThere, fault_at_lem, MovesSay, ReplaySays, Replayed}
 use Rattle.locks.proofs.Interleaving.{runs_more}
 use Rattle.locks.proofs.Basics.{some_none, some_some, nth_there}
 
