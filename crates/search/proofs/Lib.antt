@@ -1,7 +1,9 @@
 pub mod IndexLaws
 pub mod MoveLaws
+pub mod OnwardLaws
 pub mod ReplayLaws
 pub mod ScanLaws
 pub mod SearchLaws
+pub mod ShapeLaws
 pub mod SummaryLaws
 pub mod WeighLaws

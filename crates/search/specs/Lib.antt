@@ -5,6 +5,7 @@ pub mod Playing
 pub mod Replaying
 pub mod Scanning
 pub mod Searching
+pub mod Shapes
 pub mod Summaries
 pub mod Summarising
 pub mod Weighing
