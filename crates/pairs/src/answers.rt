@@ -1,6 +1,6 @@
 // What ask answers.
 ghost use Rattle.std.specs.Prelude.{◌≡◌};
-ghost use Rattle.pairs.specs.Answers.{ask-refusal};
+ghost use Rattle.pairs.specs.Answers.{ask_refusal};
 
 use locks::refusals::{Part, Refusal};
 use locks::together::Side;
@@ -27,7 +27,7 @@ pub enum AskFault {
 
 impl AskFault {
     pub fn refusal(self) -> Refusal
-        ensures { result ≡ ask-refusal self }
+        ensures { result ≡ ask_refusal self }
     {
         let (number, place) = match self {
             AskFault::NoSummary(Side::Left) => (16, 0),
