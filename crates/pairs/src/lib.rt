@@ -2,7 +2,7 @@
 #![tactic(auto)]
 
 pub mod answers;
-pub mod asking;
+mod asking;
 mod meeting;
 mod nearest;
 mod writing;

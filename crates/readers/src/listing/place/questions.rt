@@ -1,6 +1,5 @@
 // A listing as a thread graph: the steps of a location are those of its command.
-ghost use Rattle.std.specs.Prelude.{◌≡◌, length};
-ghost use Prim.Native.Nat.{◌<◌};
+ghost use Rattle.std.specs.Prelude.{◌≡◌, ℕ, ◌<◌, length};
 ghost use Rattle.std.specs.List.{slice_get};
 ghost use Rattle.readers.specs.Graph.{listing_graph, steps_of};
 ghost use Rattle.readers.specs.Place.{commands_in};
@@ -44,7 +43,7 @@ impl ThreadGraph for Listing {
 }
 
 fn step_count(command: Command) -> u8
-    ensures { (n : Prim.Native.Nat.ℕ) → result ≡ length (steps_of n command) }
+    ensures { (n : ℕ) → result ≡ length (steps_of n command) }
 {
     match command {
         Command::Stop => 0,
