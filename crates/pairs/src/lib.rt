@@ -1,7 +1,7 @@
 // Questions about a pair of locations of two summarised threads.
 #![tactic(auto)]
 
-pub mod answers;
+mod answers;
 mod asking;
 mod meeting;
 mod nearest;

@@ -1,6 +1,6 @@
 -- Where a run leads outside, or on past its end.
 use Rattle.std.proofs.Common.{◌≡◌, ℕ, ◌+◌, ◌<◌, Bool, true, false, cond, not, List, [], ◌∷◌, ◌++◌, length, Ok, Err, Result, refl, ap, ◌∙◌, subst, arith, length-append}
-use Rattle.std.specs.List.{AllByRecursion as All}
+use Rattle.std.specs.List.{AllByRecursion}
 use Rattle.std.proofs.lemmas.Bool.{cond_both, cond-true, cond-false}
 use Rattle.std.proofs.lemmas.Bool.Decides.{not_from_Decides}
 use Rattle.readers.specs.declared.listing.command.Command.{Command}
@@ -21,12 +21,12 @@ use Rattle.readers.proofs.Sizes.{width_written, same_fault}
 abbrev pub Outside : ℕ → ℕ → List Command → ℕ → Type 0
 Outside n at cs place =
     (front : List Command) × (c : Command) × (back : List Command) × (cs ≡ front ++ c ∷ back)
-    × (place ≡ at + length (encode front)) × All (LeadsInside n) front × (LeadsInside n c → ⊥)
+    × (place ≡ at + length (encode front)) × AllByRecursion (LeadsInside n) front × (LeadsInside n c → ⊥)
 
 abbrev pub On : ℕ → ℕ → List Command → ℕ → Type 0
 On n at cs place =
     (front : List Command) × (last : Command) × (cs ≡ front ++ last ∷ [])
-    × (place ≡ at + length (encode front)) × All (LeadsInside n) cs × (MayEnd last → ⊥)
+    × (place ≡ at + length (encode front)) × AllByRecursion (LeadsInside n) cs × (MayEnd last → ⊥)
 
 abbrev pub Led : Wrong → ℕ → ℕ → List Command → ℕ → Type 0
 Led NoBytes n at cs place = ⊥
@@ -100,7 +100,7 @@ led_refused RunsOffTheEnd bs cs place run h =
     let there = h.3 in
     (cs, run, record { front = h.0; last = h.1; split = h.2; place = omega arith; all_inside = h.4; on = h.5 })
 
-pub flow_outside : (n : ℕ) (end : Result (Unit {0}) ListingFault) (at : ℕ) (front : List Command) (c : Command) (back : List Command) → All (LeadsInside n) front → (LeadsInside n c → ⊥) → flow n end at (front ++ c ∷ back) ≡ Err (fault MissingTarget (at + length (encode front)))
+pub flow_outside : (n : ℕ) (end : Result (Unit {0}) ListingFault) (at : ℕ) (front : List Command) (c : Command) (back : List Command) → AllByRecursion (LeadsInside n) front → (LeadsInside n c → ⊥) → flow n end at (front ++ c ∷ back) ≡ Err (fault MissingTarget (at + length (encode front)))
 flow_outside n end at [] c back fine out =
     let there : at ≡ at + 0 = omega arith in
     cond-false _ _ _ (not_inside n c out) ∙ ap (λ p. Err (fault MissingTarget p)) there
@@ -124,7 +124,7 @@ leads_on at (Give k) h = refl
 leads_on at (Goto t) h = absurd (h tt)
 leads_on at (Either t u) h = absurd (h tt)
 
-pub flow_on : (n : ℕ) (end : Result (Unit {0}) ListingFault) (at : ℕ) (front : List Command) (c : Command) → All (LeadsInside n) (front ++ c ∷ []) → (MayEnd c → ⊥) → flow n end at (front ++ c ∷ []) ≡ Err (fault RunsOffTheEnd (at + length (encode front)))
+pub flow_on : (n : ℕ) (end : Result (Unit {0}) ListingFault) (at : ℕ) (front : List Command) (c : Command) → AllByRecursion (LeadsInside n) (front ++ c ∷ []) → (MayEnd c → ⊥) → flow n end at (front ++ c ∷ []) ≡ Err (fault RunsOffTheEnd (at + length (encode front)))
 flow_on n end at [] c fine out =
     let there : at ≡ at + 0 = omega arith in
     cond-true _ _ _ ((leads_in n c).1 fine.0) ∙ leads_on at c out ∙ ap (λ p. Err (fault RunsOffTheEnd p)) there

@@ -1,6 +1,6 @@
 -- A reading by the specification is one in the subject's words.
 use Rattle.std.proofs.Common.{◌≡◌, ℕ, ◌<◌, List, get_or, Ok, Err, Result, sym, refl, ap, ◌∙◌, subst, arith}
-use Rattle.std.specs.List.{AllByRecursion as All}
+use Rattle.std.specs.List.{AllByRecursion}
 use Rattle.std.proofs.ByRecursion.{All-from_get_or}
 use Rattle.readers.specs.declared.listing.command.Command.{Command}
 use Rattle.readers.specs.declared.listing.fault.ListingFault.{ListingFault}
@@ -10,7 +10,7 @@ use Rattle.readers.specs.Reading.{given, run, refusal, listing}
 use Rattle.readers.specs.Laws.{listings}
 use Rattle.readers.proofs.Reasons.{reasons}
 
-meaning : (bytes : List ℕ) (before after : List Command) (r : Result (Unit {0}) ListingFault) (said : Result (List Command) ListingFault) → All (λ b. b < 256) bytes → listing bytes ≡ said → r ≡ answer_of said → after ≡ commands_after said before → Means bytes r after
+meaning : (bytes : List ℕ) (before after : List Command) (r : Result (Unit {0}) ListingFault) (said : Result (List Command) ListingFault) → AllByRecursion (λ b. b < 256) bytes → listing bytes ≡ said → r ≡ answer_of said → after ≡ commands_after said before → Means bytes r after
 meaning bytes before after (Ok u) (Ok cs) small e answer place =
     let p = listings.read_back bytes cs small e in
     (p.0 ∙ ap encode (sym place), subst WellFormed (sym place) p.1)

@@ -1,6 +1,6 @@
 -- Each refusal and its reason.
 use Rattle.std.proofs.Common.{◌≡◌, ℕ, zero, suc, ◌+◌, ◌<◌, ◌≤◌, ◌⊎◌, List, [], ◌∷◌, ◌++◌, length, Ok, Err, Result, sym, refl, ap, ◌∙◌, subst, inl, inr, append_assoc, arith, length-append}
-use Rattle.std.specs.List.{AllByRecursion as All}
+use Rattle.std.specs.List.{AllByRecursion}
 use Rattle.std.proofs.lemmas.Bool.{cond-true, cond-false, lt-ltb, le-ltb}
 use Rattle.readers.specs.declared.listing.command.Command.{Command}
 use Rattle.readers.specs.declared.listing.fault.Wrong.{Wrong}
@@ -24,7 +24,7 @@ given_fault : {X : Type 0} (r : Result (Unit {0}) ListingFault) (x : X) (f : Lis
 given_fault (Ok u) x f h = let z : ◌≡◌ {A = ℕ} 0 1 = cc in absurd (omega arith)
 given_fault (Err e) x f h = ap Err (same_fault e f h)
 
-told_some : (b : ℕ) (bs : List ℕ) (f : ListingFault) → All (λ x. x < 256) (b ∷ bs) → (r : Result (Unit {0}) ListingFault) → broken 0 0 0 (b ∷ bs) ≡ r → or_flow r (run 0 (b ∷ bs)) ≡ Err f → Refused f.wrong (b ∷ bs) f.at
+told_some : (b : ℕ) (bs : List ℕ) (f : ListingFault) → AllByRecursion (λ x. x < 256) (b ∷ bs) → (r : Result (Unit {0}) ListingFault) → broken 0 0 0 (b ∷ bs) ≡ r → or_flow r (run 0 (b ∷ bs)) ≡ Err f → Refused f.wrong (b ∷ bs) f.at
 told_some b bs f small (Ok u) e h =
     let some = some_command 0 0 b bs e in
     let count = few 0 0 0 (b ∷ bs) (omega arith) e in
@@ -40,13 +40,13 @@ told_some b bs f small (Err g) e h =
     stuck_refused f.wrong (b ∷ bs) f.at
     (stuck 0 0 0 (b ∷ bs) f (omega arith) small (e ∙ ap Err (same_fault g f h)))
 
-told : (bs : List ℕ) (f : ListingFault) → All (λ b. b < 256) bs → listing bs ≡ Err f → Refused f.wrong bs f.at
+told : (bs : List ℕ) (f : ListingFault) → AllByRecursion (λ b. b < 256) bs → listing bs ≡ Err f → Refused f.wrong bs f.at
 told [] f small h = subst (λ g. Refused g.wrong [] g.at) (same_fault (fault NoBytes 0) f h) (refl, refl)
 told (b ∷ bs) f small h =
     told_some b bs f small (broken 0 0 0 (b ∷ bs)) refl (given_fault (refusal (b ∷ bs)) (run 0 (b ∷ bs)) f h)
 
 -- the other way: whole commands are passed over
-broken_behind : (cs : List Command) (rest : List ℕ) (n at : ℕ) → n + length cs ≤ most → All LockIsKnown cs → broken 0 n at (encode cs ++ rest) ≡ broken 0 (n + length cs) (at + length (encode cs)) rest
+broken_behind : (cs : List Command) (rest : List ℕ) (n at : ℕ) → n + length cs ≤ most → AllByRecursion LockIsKnown cs → broken 0 n at (encode cs ++ rest) ≡ broken 0 (n + length cs) (at + length (encode cs)) rest
 broken_behind [] rest n at room known =
     let a : n ≡ n + 0 = omega arith in
     let b : at ≡ at + 0 = omega arith in
@@ -163,7 +163,7 @@ only_so RunsOffTheEnd bs place h =
     let there : 0 + length (encode o.front) ≡ place = omega arith in
     whole_refusal bs cs h.1
     ∙ ap (flow (length cs) (Ok tt) 0) o.split
-    ∙ flow_on (length cs) (Ok tt) 0 o.front o.last (subst (All (LeadsInside (length cs))) o.split o.all_inside) o.on
+    ∙ flow_on (length cs) (Ok tt) 0 o.front o.last (subst (AllByRecursion (LeadsInside (length cs))) o.split o.all_inside) o.on
     ∙ ap (λ p. Err (fault RunsOffTheEnd p)) there
 
 only : (bs : List ℕ) (f : ListingFault) → Refused f.wrong bs f.at → listing bs ≡ Err f

@@ -1,6 +1,6 @@
 -- Where bytes stop being commands.
 use Rattle.std.proofs.Common.{◌≡◌, ℕ, zero, suc, pred, ◌+◌, ◌<◌, ◌≤◌, leb, List, [], ◌∷◌, ◌++◌, length, drop, Ok, Err, Result, sym, refl, ap, ◌∙◌, subst, append_assoc, arith, length-append}
-use Rattle.std.specs.List.{AllByRecursion as All}
+use Rattle.std.specs.List.{AllByRecursion}
 use Rattle.std.proofs.lemmas.Bool.{cond_both, leb-true, leb-false}
 use Rattle.readers.specs.declared.listing.command.Command.{Command}
 use Rattle.readers.specs.declared.listing.fault.Wrong.{Wrong}
@@ -24,7 +24,7 @@ pub record Stuck (w : Wrong) (xs : List ℕ) (n at place : ℕ) : Type 0 where
   before : List Command
   rest : List ℕ
   split : xs ≡ encode before ++ rest
-  known : All LockIsKnown before
+  known : AllByRecursion LockIsKnown before
   there : place ≡ at + length (encode before)
   wrong : WrongThere w (n + length before) rest
 
@@ -34,7 +34,7 @@ here w b bs n at f e h =
     subst (λ g. Stuck g.wrong (b ∷ bs) n (at + 0) g.at) e
     (record { before = []; rest = b ∷ bs; split = refl; known = tt; there = omega arith; wrong = subst (λ m. WrongThere w m (b ∷ bs)) same h })
 
-stuck_more : (b : ℕ) (bs : List ℕ) (n at : ℕ) (f : ListingFault) (c : Command) → All (λ x. x < 256) (b ∷ bs) → first highest (b ∷ bs) ≡ Ok c → Stuck f.wrong (drop (pred (width c)) bs) (suc n) (suc at + pred (width c)) f.at → Stuck f.wrong (b ∷ bs) n (at + 0) f.at
+stuck_more : (b : ℕ) (bs : List ℕ) (n at : ℕ) (f : ListingFault) (c : Command) → AllByRecursion (λ x. x < 256) (b ∷ bs) → first highest (b ∷ bs) ≡ Ok c → Stuck f.wrong (drop (pred (width c)) bs) (suc n) (suc at + pred (width c)) f.at → Stuck f.wrong (b ∷ bs) n (at + 0) f.at
 stuck_more b bs n at f c small e i =
     let wide = width_some c in
     let long = width_written c in
@@ -64,7 +64,7 @@ by_wrong n at b bs f P more stop room =
     go (Ok c) e small h = more c e small h
     go (Err w) e small h = stop w (first_fails b bs w e n small) (same_fault _ f h)
 
-pub stuck : (s n at : ℕ) (bs : List ℕ) (f : ListingFault) → n ≤ most → All (λ x. x < 256) bs → broken s n at bs ≡ Err f → Stuck f.wrong (drop s bs) n (at + s) f.at
+pub stuck : (s n at : ℕ) (bs : List ℕ) (f : ListingFault) → n ≤ most → AllByRecursion (λ x. x < 256) bs → broken s n at bs ≡ Err f → Stuck f.wrong (drop s bs) n (at + s) f.at
 stuck s n at [] f room small h = let z : ◌≡◌ {A = ℕ} 0 1 = cc in absurd (omega arith)
 stuck zero n at (b ∷ bs) f room small h =
     by_wrong n at b bs f (Stuck f.wrong (b ∷ bs) n (at + 0) f.at)

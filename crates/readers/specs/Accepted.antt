@@ -1,7 +1,7 @@
 -- What is known of bytes that are not refused.
 use Rattle.std.specs.Prelude.{◌≡◌, ℕ, zero, suc, pred, ◌+◌, ◌/◌, ◌%◌, ◌<◌, ◌≤◌, Bool, true, false, cond, not, List, [], ◌∷◌, ◌++◌, length, drop, Ok, Err, Result, nat_le, refl}
 use Rattle.std.proofs.Common.{sym, ap, subst, ◌∙◌, arith}
-use Rattle.std.specs.List.{AllByRecursion as All}
+use Rattle.std.specs.List.{AllByRecursion}
 use Rattle.std.proofs.lemmas.Bool.{cond_both, lt-ltb, le-leb, leb-false, and_from}
 use Rattle.readers.specs.declared.listing.command.Command.{Command}
 use Rattle.readers.specs.declared.listing.command.Command.TheVariants.{Stop, Pass, Take, Give, Goto, Either}
@@ -54,19 +54,19 @@ locks_known zero n at (b ∷ bs) h =
 locks_known (suc s) n at (b ∷ bs) h = locks_known s n (suc at) bs h
 
 -- the bytes of a command are those that it was read from
-pub spelt_written : (bs : List ℕ) (c : Command) → All (λ b. b < 256) bs → Spelt bs c → bs ≡ written c ++ drop (width c) bs
+pub spelt_written : (bs : List ℕ) (c : Command) → AllByRecursion (λ b. b < 256) bs → Spelt bs c → bs ≡ written c ++ drop (width c) bs
 spelt_written bs Stop a s = rw s.1 refl
 spelt_written bs Pass a s = rw s.1 refl
 spelt_written bs (Take k) a s = rw s.1 refl
 spelt_written bs (Give k) a s = rw s.1 refl
 spelt_written bs (Goto t) a s =
-    let low = subst (All (λ b. b < 256)) s.3 a in
+    let low = subst (AllByRecursion (λ b. b < 256)) s.3 a in
     let is = s.4 in
     let high : s.1 ≡ t / 256 = omega (arith, low.1.1.0) in
     let rest : s.2 ≡ t % 256 = omega (arith, low.1.1.0) in
     s.3 ∙ ap (λ x. 4 ∷ x ∷ s.2 ∷ s.0) high ∙ ap (λ x. 4 ∷ t / 256 ∷ x ∷ s.0) rest ∙ ap (λ xs. 4 ∷ t / 256 ∷ t % 256 ∷ drop 3 xs) (sym s.3)
 spelt_written bs (Either t u) a s =
-    let low = subst (All (λ b. b < 256)) s.5 a in
+    let low = subst (AllByRecursion (λ b. b < 256)) s.5 a in
     let is = s.6 in
     let also = s.7 in
     let a₁ : s.1 ≡ t / 256 = omega (arith, low.1.1.0) in
@@ -88,7 +88,7 @@ width_drop (Give k) b bs = refl
 width_drop (Goto t) b bs = refl
 width_drop (Either t u) b bs = refl
 
-pub bytes_written : (s n at : ℕ) (bs : List ℕ) → All (λ b. b < 256) bs → broken s n at bs ≡ Ok tt → drop s bs ≡ encode (run s bs)
+pub bytes_written : (s n at : ℕ) (bs : List ℕ) → AllByRecursion (λ b. b < 256) bs → broken s n at bs ≡ Ok tt → drop s bs ≡ encode (run s bs)
 bytes_written zero n at [] a h = refl
 bytes_written (suc s) n at [] a h = refl
 bytes_written zero n at (b ∷ bs) a h =

@@ -1,6 +1,6 @@
 -- Listings in the subject's words: how commands are written, and which runs of commands are well formed.
 use Rattle.std.specs.Prelude.{◌≡◌, ℕ, ◌/◌, ◌%◌, ◌<◌, ◌≤◌, List, [], ◌∷◌, ◌++◌, length, Ok}
-use Rattle.std.specs.List.{flat_map, AllByRecursion as All}
+use Rattle.std.specs.List.{flat_map, AllByRecursion}
 use Rattle.readers.specs.declared.listing.command.Command.{Command}
 use Rattle.readers.specs.declared.listing.command.Command.TheVariants.{Stop, Pass, Take, Give, Goto, Either}
 use Rattle.readers.specs.Bytes.{locks}
@@ -53,11 +53,11 @@ MayEnd (Either t u) = Unit {0}
 -- a target is below the number of commands, so it fits two bytes
 pub record WellFormed (cs : List Command) : Type 0 where
   pub few : length cs ≤ most
-  pub locks_known : All LockIsKnown cs
-  pub leads_inside_lem : All (LeadsInside (length cs)) cs
+  pub locks_known : AllByRecursion LockIsKnown cs
+  pub leads_inside_lem : AllByRecursion (LeadsInside (length cs)) cs
   pub ends : (front : List Command) × (last : Command) × (cs ≡ front ++ last ∷ []) × MayEnd last
 
 -- bytes are read exactly where they are a well_formed run of commands, and then as that run
 pub record ListingsAreTheirCommands : Type 0 where
-  pub read_back : (bs : List ℕ) (cs : List Command) → All (λ b. b < 256) bs → listing bs ≡ Ok cs → (bs ≡ encode cs) × WellFormed cs
+  pub read_back : (bs : List ℕ) (cs : List Command) → AllByRecursion (λ b. b < 256) bs → listing bs ≡ Ok cs → (bs ≡ encode cs) × WellFormed cs
   pub all_read : (cs : List Command) → WellFormed cs → listing (encode cs) ≡ Ok cs

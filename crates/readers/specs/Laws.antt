@@ -1,7 +1,7 @@
 -- The law of listings: they are their commands, written one after another.
 use Rattle.std.specs.Prelude.{◌≡◌, ℕ, ◌+◌, ◌*◌, ◌/◌, ◌%◌, ◌<◌, ◌≤◌, Bool, true, false, cond, not, List, [], ◌∷◌, ◌++◌, length, drop, Ok, Err, Decides, Result, nat_le, nat_lt, refl}
 use Rattle.std.proofs.Common.{sym, ap, subst, ◌∙◌, arith}
-use Rattle.std.specs.List.{AllByRecursion as All}
+use Rattle.std.specs.List.{AllByRecursion}
 use Rattle.std.proofs.lemmas.Bool.{cond-true, lt-ltb, le-leb, leb-true, and_from, and_parts}
 use Rattle.std.proofs.lemmas.Bool.Decides.{Decides-ltb, Decides-and}
 use Rattle.std.proofs.ByRecursion.{Decides-by_and}
@@ -35,10 +35,10 @@ leads_in n (Give k) = (λ _. tt, λ _. refl)
 leads_in n (Goto t) = Decides-ltb t n
 leads_in n (Either t u) = Decides-and (nat_lt t n) (nat_lt u n) (Decides-ltb t n) (Decides-ltb u n)
 
-pub all_locks : (cs : List Command) → Decides (all_locks_known cs) (All LockIsKnown cs)
+pub all_locks : (cs : List Command) → Decides (all_locks_known cs) (AllByRecursion LockIsKnown cs)
 all_locks = Decides-by_and command_lock_known LockIsKnown all_locks_known knows_lock refl (λ _ _. refl)
 
-pub all_inside : (n : ℕ) (cs : List Command) → Decides (all_lead_inside n cs) (All (LeadsInside n) cs)
+pub all_inside : (n : ℕ) (cs : List Command) → Decides (all_lead_inside n cs) (AllByRecursion (LeadsInside n) cs)
 all_inside n = Decides-by_and (inside n) (LeadsInside n) (all_lead_inside n) (leads_in n) refl (λ _ _. refl)
 
 pub may_end : (c : Command) → not (goes_on_lem c) ≡ true → MayEnd c
@@ -114,13 +114,13 @@ drop_written (Give k) rest = refl
 drop_written (Goto t) rest = refl
 drop_written (Either t u) rest = refl
 
-pub run_encode : (cs : List Command) → All LockIsKnown cs → run 0 (encode cs) ≡ cs
+pub run_encode : (cs : List Command) → AllByRecursion LockIsKnown cs → run 0 (encode cs) ≡ cs
 run_encode [] h = refl
 run_encode (c ∷ cs) h =
     run_more (written c ++ encode cs) c (first_written c (encode cs) h.0)
     ∙ ap (λ l. c ∷ l) (ap (run 0) (drop_written c (encode cs)) ∙ run_encode cs h.1)
 
-pub broken_encode : (cs : List Command) (n at : ℕ) → n + length cs ≤ most → All LockIsKnown cs → broken 0 n at (encode cs) ≡ Ok tt
+pub broken_encode : (cs : List Command) (n at : ℕ) → n + length cs ≤ most → AllByRecursion LockIsKnown cs → broken 0 n at (encode cs) ≡ Ok tt
 broken_encode [] n at room h = refl
 broken_encode (c ∷ cs) n at room h =
     let small : n < most = omega arith in
@@ -156,7 +156,7 @@ some_bytes (Goto t ∷ cs) h = omega arith
 some_bytes (Either t u ∷ cs) h = omega arith
 
 -- of written commands only where they lead is left to ask
-pub refusal_encode : (cs : List Command) → 0 < length cs → length cs ≤ most → All LockIsKnown cs → refusal (encode cs) ≡ flow (length cs) (Ok tt) 0 cs
+pub refusal_encode : (cs : List Command) → 0 < length cs → length cs ≤ most → AllByRecursion LockIsKnown cs → refusal (encode cs) ≡ flow (length cs) (Ok tt) 0 cs
 refusal_encode cs some few known =
     refusal_some (encode cs) (some_bytes cs some)
     ∙ ap (λ r. or_flow r (run 0 (encode cs))) (broken_encode cs 0 0 (omega arith) known)
@@ -179,7 +179,7 @@ given_is : {X : Type 0} (r : Result (Unit {0}) ListingFault) (x y : X) → given
 given_is (Ok u) x y h = (refl, cc)
 given_is (Err e) x y h = let z : ◌≡◌ {A = ℕ} 0 1 = cc in absurd (omega arith)
 
-pub read_encoded : (bs : List ℕ) (cs : List Command) → All (λ b. b < 256) bs → listing bs ≡ Ok cs → (bs ≡ encode cs) × WellFormed cs
+pub read_encoded : (bs : List ℕ) (cs : List Command) → AllByRecursion (λ b. b < 256) bs → listing bs ≡ Ok cs → (bs ≡ encode cs) × WellFormed cs
 read_encoded bs cs a h =
     let p = given_is (refusal bs) (run 0 bs) cs h in (
       bytes_written 0 0 0 bs a (not_broken bs p.0) ∙ ap encode p.1,

@@ -1,6 +1,6 @@
 -- Why bytes are refused, in the subject's words.
 use Rattle.std.specs.Prelude.{◌≡◌, ℕ, ◌<◌, ◌≤◌, cond, ◌⊎◌, List, [], ◌∷◌, ◌++◌, length, Err, ◌==◌, nat_lt}
-use Rattle.std.specs.List.{AllByRecursion as All}
+use Rattle.std.specs.List.{AllByRecursion}
 use Rattle.readers.specs.declared.listing.command.Command.{Command}
 use Rattle.readers.specs.declared.listing.fault.Wrong.{Wrong}
 use Rattle.readers.specs.declared.listing.fault.Wrong.TheVariants.{NoBytes, TooManyCommands, UnknownCommand, CutOff, UnknownLock, MissingTarget, RunsOffTheEnd}
@@ -29,7 +29,7 @@ pub record WrongBytes (w : Wrong) (bs : List ℕ) (at : ℕ) : Type 0 where
   pub before : List Command
   pub rest : List ℕ
   pub split : bs ≡ encode before ++ rest
-  pub locks_known : All LockIsKnown before
+  pub locks_known : AllByRecursion LockIsKnown before
   pub place : at ≡ length (encode before)
   pub wrong : WrongThere w (length before) rest
 
@@ -38,7 +38,7 @@ pub record WholeRun (bs : List ℕ) (cs : List Command) : Type 0 where
   pub some : 0 < length cs
   pub few : length cs ≤ most
   pub whole : bs ≡ encode cs
-  pub locks_known : All LockIsKnown cs
+  pub locks_known : AllByRecursion LockIsKnown cs
 
 -- the first command with a target that is no command
 pub record LeadsOutside (cs : List Command) (at : ℕ) : Type 0 where
@@ -47,7 +47,7 @@ pub record LeadsOutside (cs : List Command) (at : ℕ) : Type 0 where
   pub back : List Command
   pub split : cs ≡ front ++ outside ∷ back
   pub place : at ≡ length (encode front)
-  pub inside_before : All (LeadsInside (length cs)) front
+  pub inside_before : AllByRecursion (LeadsInside (length cs)) front
   pub missing : LeadsInside (length cs) outside → ⊥
 
 -- all targets are commands, and the last command leads on
@@ -56,7 +56,7 @@ pub record LeadsOn (cs : List Command) (at : ℕ) : Type 0 where
   pub last : Command
   pub split : cs ≡ front ++ last ∷ []
   pub place : at ≡ length (encode front)
-  pub all_inside : All (LeadsInside (length cs)) cs
+  pub all_inside : AllByRecursion (LeadsInside (length cs)) cs
   pub on : MayEnd last → ⊥
 
 abbrev pub Refused : Wrong → List ℕ → ℕ → Type 0
@@ -70,5 +70,5 @@ Refused RunsOffTheEnd bs at = (cs : List Command) × WholeRun bs cs × LeadsOn c
 
 -- each refusal has its reason, and where the reason holds there is that refusal
 pub record RefusalsHaveTheirReasons : Type 0 where
-  pub told : (bs : List ℕ) (f : ListingFault) → All (λ b. b < 256) bs → listing bs ≡ Err f → Refused f.wrong bs f.at
+  pub told : (bs : List ℕ) (f : ListingFault) → AllByRecursion (λ b. b < 256) bs → listing bs ≡ Err f → Refused f.wrong bs f.at
   pub only : (bs : List ℕ) (f : ListingFault) → Refused f.wrong bs f.at → listing bs ≡ Err f

@@ -1,7 +1,7 @@
 -- A task that is written is read back.
 use Rattle.std.proofs.Common.{◌≡◌, ℕ, ◌^◌, ◌<◌, ◌≤◌, Bool, true, List, [], ◌∷◌, ◌++◌, map, length, Ok, codes, decimal, Result, refl, ap, arith, lit<}
 use Rattle.std.proofs.ByRecursion.{All-map, All-weaker}
-use Rattle.std.specs.List.{AllByRecursion as All}
+use Rattle.std.specs.List.{AllByRecursion}
 use Rattle.task.specs.declared.fault.TextFault.{TextFault}
 use Rattle.task.specs.declared.fault.Wrong.{Wrong}
 use Rattle.task.specs.declared.fault.Wrong.TheVariants.{Byte, Move}
@@ -17,19 +17,19 @@ use Rattle.task.proofs.Stages.{all_lines}
 -- the keyword and the items of a line can be told apart, and from the next line
 pub record Plain (keyword : List ℕ) (ws : List (List ℕ)) : Type 0 where
   pub keyword_space : Lacks 32 keyword
-  pub items_space : All (Lacks 32) ws
+  pub items_space : AllByRecursion (Lacks 32) ws
   pub keyword_end : Lacks 10 keyword
-  pub items_end : All (Lacks 10) ws
+  pub items_end : AllByRecursion (Lacks 10) ws
 
 line_back : {X : Type 0} (keyword : List ℕ) (spells : List (List ℕ) → Result X Wrong) (ws : List (List ℕ)) (all rest : List (List ℕ)) (x : X) → Plain keyword ws → all ≡ line_text keyword ws ∷ rest → spells ws ≡ Ok x → line_of keyword spells all ≡ Ok (x, rest)
 line_back keyword spells ws all rest x plain first is =
     rw (opens keyword all (line_text keyword ws) keyword rest ws first (words_spaced keyword ws plain.keyword_space plain.items_space) refl)
     (ap (told (λ y. (y, rest))) is)
 
-bytes_back : (xs : List ℕ) → All (λ b. b < 256) xs → length xs ≤ 4096 → bytes (map byte_word xs) ≡ Ok xs
+bytes_back : (xs : List ℕ) → AllByRecursion (λ b. b < 256) xs → length xs ≤ 4096 → bytes (map byte_word xs) ≡ Ok xs
 bytes_back xs small room = each_back byte_of Byte byte_word [] xs (All-weaker _ _ byte_back xs small) (omega arith)
 
-moves_back : (xs : List ℕ) → All (λ m. m < 2 ^ 16) xs → length xs ≤ 4096 → move_numbers_of (map move_word xs) ≡ Ok xs
+moves_back : (xs : List ℕ) → AllByRecursion (λ m. m < 2 ^ 16) xs → length xs ≤ 4096 → move_numbers_of (map move_word xs) ≡ Ok xs
 moves_back xs small room = each_back move_number Move move_word [] xs (All-weaker _ _ move_back xs small) (omega arith)
 
 pair_back : (a b : ℕ) → a < 2 ^ 32 → b < 2 ^ 32 → pair_of (decimal a ∷ decimal b ∷ []) ≡ Ok (a, b)
@@ -38,7 +38,7 @@ pair_back a b ha hb =
     let second = number_back 4294967295 b (omega arith) (omega arith) in
     rw (first, second)
 
-plain_items : (keyword : List ℕ) (P : ℕ → Type 0) (write : ℕ → List ℕ) → absent 32 keyword ≡ true → absent 10 keyword ≡ true → ((at : ℕ) → at < 48 → (x : ℕ) → P x → Lacks at (write x)) → (xs : List ℕ) → All P xs → Plain keyword (map write xs)
+plain_items : (keyword : List ℕ) (P : ℕ → Type 0) (write : ℕ → List ℕ) → absent 32 keyword ≡ true → absent 10 keyword ≡ true → ((at : ℕ) → at < 48 → (x : ℕ) → P x → Lacks at (write x)) → (xs : List ℕ) → AllByRecursion P xs → Plain keyword (map write xs)
 plain_items keyword P write space end lacks xs all =
     record {
       keyword_space = lacks_if 32 keyword space;
@@ -51,7 +51,7 @@ first_line_lem : (keyword : List ℕ) (ws : List (List ℕ)) (rest : List ℕ) �
 first_line_lem keyword ws rest plain = cuts_piece 10 [] (line_text keyword ws) rest (lacks_line keyword ws plain.keyword_end plain.items_end)
 
 module _ (closed : Bool) (t : TaskValue) (proper : Proper t) where
-  byte_plain : (keyword : List ℕ) → absent 32 keyword ≡ true → absent 10 keyword ≡ true → (xs : List ℕ) → All (λ b. b < 256) xs → Plain keyword (map byte_word xs)
+  byte_plain : (keyword : List ℕ) → absent 32 keyword ≡ true → absent 10 keyword ≡ true → (xs : List ℕ) → AllByRecursion (λ b. b < 256) xs → Plain keyword (map byte_word xs)
   byte_plain keyword space end xs small = plain_items keyword (λ b. b < 256) byte_word space end (λ at low b _. byte_lacks at low b) xs small
 
   pair_plain : Plain (codes "pair") (decimal t.left_location ∷ decimal t.right_location ∷ [])

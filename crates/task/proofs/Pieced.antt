@@ -2,12 +2,12 @@
 use Rattle.std.proofs.Common.{◌≡◌, ℕ, Bool, true, false, not, ◌&&◌, eqb, List, [], ◌∷◌, ◌++◌, refl, ap, ◌∙◌, append-nil, arith}
 use Rattle.std.proofs.ByRecursion.{All-append}
 use Rattle.std.proofs.lemmas.Bool.{and_parts, eqb-false, not-true, eq-eqb, ne_eqb, cond-true, cond-false}
-use Rattle.std.specs.List.{AllByRecursion as All}
+use Rattle.std.specs.List.{AllByRecursion}
 use Rattle.task.specs.Pieces.{onto, cuts, lines, words}
 use Rattle.task.specs.Written.{spaced, line_text, ending}
 
 abbrev pub Lacks : ℕ → List ℕ → Type 0
-Lacks at bs = All (λ b. b ≡ at → ⊥) bs
+Lacks at bs = AllByRecursion (λ b. b ≡ at → ⊥) bs
 
 abbrev pub absent : ℕ → List ℕ → Bool
 absent at [] = true
@@ -28,7 +28,7 @@ words_alone : (w : List ℕ) → Lacks 32 w → words w ≡ w ∷ []
 words_alone [] h = refl
 words_alone (b ∷ w) h = cond-false _ _ _ (ne_eqb b 32 h.0) ∙ ap (onto b) (words_alone w h.1)
 
-pub words_spaced : (w : List ℕ) (ws : List (List ℕ)) → Lacks 32 w → All (Lacks 32) ws → words (w ++ spaced ws) ≡ w ∷ ws
+pub words_spaced : (w : List ℕ) (ws : List (List ℕ)) → Lacks 32 w → AllByRecursion (Lacks 32) ws → words (w ++ spaced ws) ≡ w ∷ ws
 words_spaced w [] h hs = ap words (append-nil w) ∙ words_alone w h
 words_spaced w (v ∷ vs) h hs = cuts_piece 32 ([] ∷ []) w (v ++ spaced vs) h ∙ ap (λ l. w ∷ l) (words_spaced v vs hs.0 hs.1)
 
@@ -40,6 +40,6 @@ pub lines_last : (closed : Bool) (b : ℕ) (w : List ℕ) → Lacks 10 (b ∷ w)
 lines_last true b w h = cuts_piece 10 [] (b ∷ w) [] h
 lines_last false b w h = ap lines (append-nil (b ∷ w)) ∙ lines_alone b w h
 
-pub lacks_line : (keyword : List ℕ) (ws : List (List ℕ)) → Lacks 10 keyword → All (Lacks 10) ws → Lacks 10 (line_text keyword ws)
+pub lacks_line : (keyword : List ℕ) (ws : List (List ℕ)) → Lacks 10 keyword → AllByRecursion (Lacks 10) ws → Lacks 10 (line_text keyword ws)
 lacks_line keyword [] h hs = All-append _ keyword [] h tt
 lacks_line keyword (w ∷ ws) h hs = All-append _ keyword (32 ∷ (w ++ spaced ws)) h (λ e. omega arith, lacks_line w ws hs.0 hs.1)

@@ -3,7 +3,7 @@ use Rattle.std.proofs.Common.{◌≡◌, ℕ, ◌+◌, ◌-◌, ◌*◌, ◌^◌
 use Rattle.std.proofs.ByRecursion.{All-push}
 use Rattle.std.proofs.lemmas.Bool.{and_parts, leb-true, ltb-true, cond_both, cond-true, cond-false, cases_Bool}
 use Rattle.std.specs.Option.{option_map, ok_or}
-use Rattle.std.specs.List.{AllByRecursion as All}
+use Rattle.std.specs.List.{AllByRecursion}
 use Rattle.std.specs.Str.{all_ascii_digits}
 use Rattle.task.specs.declared.fault.TextFault.{TextFault}
 use Rattle.task.specs.declared.fault.Wrong.{Wrong}
@@ -69,7 +69,7 @@ move_under (side ∷ cs) =
 -- what each word spells
 module _ (spells : List ℕ → Option ℕ) (wrong : Wrong) (limit : ℕ) (under : (w : List ℕ) → Under limit (spells w)) where
   abbrev Fine : List ℕ → Type 0
-  Fine out = All (λ x. x < limit) out × (length out ≤ 4096)
+  Fine out = AllByRecursion (λ x. x < limit) out × (length out ≤ 4096)
 
   one_more : (o : Option ℕ) (got : List ℕ) (out : List ℕ) (next : ℕ → Result (List ℕ) Wrong) → Under limit o → Fine got → ((x : ℕ) → Fine (got ++ x ∷ []) → next x ≡ Ok out → Fine out) → or_wrong o wrong (λ x. cond (ltb (length got) 4096) (next x) (Err TooMany)) ≡ Ok out → Fine out
   one_more None got out next u fine on h = absurd (err_ok wrong out h)
@@ -124,10 +124,10 @@ ended_ok : (ls : List (List ℕ)) (s t : TaskValue) → ended ls s ≡ Ok t → 
 ended_ok [] s t h = cc
 ended_ok (l ∷ ls) s t h = absurd (err_ok _ t h)
 
-bytes_fine : (ws : List (List ℕ)) (out : List ℕ) → bytes ws ≡ Ok out → All (λ b. b < 256) out × (length out ≤ 4096)
+bytes_fine : (ws : List (List ℕ)) (out : List ℕ) → bytes ws ≡ Ok out → AllByRecursion (λ b. b < 256) out × (length out ≤ 4096)
 bytes_fine ws out h = each_fine byte_of Byte 256 byte_under [] ws out (tt, omega arith) h
 
-moves_fine : (ws : List (List ℕ)) (out : List ℕ) → move_numbers_of ws ≡ Ok out → All (λ m. m < 2 ^ 16) out × (length out ≤ 4096)
+moves_fine : (ws : List (List ℕ)) (out : List ℕ) → move_numbers_of ws ≡ Ok out → AllByRecursion (λ m. m < 2 ^ 16) out × (length out ≤ 4096)
 moves_fine ws out h = each_fine move_number Move (2 ^ 16) move_under [] ws out (tt, omega arith) h
 
 -- what is left of the text after each line

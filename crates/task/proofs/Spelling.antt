@@ -6,7 +6,7 @@ use Rattle.std.proofs.lemmas.Str.Parse.{IsNumeralModel, numerals_by_fold}
 use Rattle.std.proofs.lemmas.Bool.{and_parts, leb-true, cond_both, ltb-true, ltb-false}
 use Rattle.std.proofs.lemmas.Bool.Decides.{nat_tests}
 use Rattle.std.specs.Option.{option_map}
-use Rattle.std.specs.List.{AllByRecursion as All}
+use Rattle.std.specs.List.{AllByRecursion}
 use Rattle.std.specs.Str.{all_ascii_digits}
 use Rattle.task.specs.declared.fault.Wrong.{Wrong}
 use Rattle.task.specs.Spelled.{each}
@@ -70,7 +70,7 @@ move_lacks at low m h =
     (λ _. (λ e. omega arith, number_lacks at low (m - 256) (omega arith)))
 
 -- the items of a line
-pub each_back : (spells : List ℕ → Option ℕ) (wrong : Wrong) (write : ℕ → List ℕ) (got xs : List ℕ) → All (λ x. spells (write x) ≡ Some x) xs → length got + length xs ≤ 4096 → each spells wrong got (map write xs) ≡ Ok (got ++ xs)
+pub each_back : (spells : List ℕ → Option ℕ) (wrong : Wrong) (write : ℕ → List ℕ) (got xs : List ℕ) → AllByRecursion (λ x. spells (write x) ≡ Some x) xs → length got + length xs ≤ 4096 → each spells wrong got (map write xs) ≡ Ok (got ++ xs)
 each_back spells wrong write got [] h room = ap Ok (sym (append-nil got))
 each_back spells wrong write got (x ∷ xs) h room =
     let longer = length-append got (x ∷ []) in

@@ -1,6 +1,6 @@
 -- How a task is written, and that it is read back.
 use Rattle.std.specs.Prelude.{◌≡◌, ℕ, ◌+◌, ◌-◌, ◌/◌, ◌%◌, ◌^◌, ◌<◌, ◌≤◌, Bool, true, false, cond, List, [], ◌∷◌, ◌++◌, map, length, Ok, codes, decimal, nat_lt}
-use Rattle.std.specs.List.{AllByRecursion as All}
+use Rattle.std.specs.List.{AllByRecursion}
 use Rattle.task.specs.Spelled.{TaskValue, spelled}
 
 -- lowercase
@@ -35,13 +35,13 @@ written closed t =
 
 -- each byte, number and move is one, and there is room for all
 pub record Proper (t : TaskValue) : Type 0 where
-  pub left_bytes : All (λ b. b < 256) t.left
+  pub left_bytes : AllByRecursion (λ b. b < 256) t.left
   pub left_room : length t.left ≤ 4096
-  pub right_bytes : All (λ b. b < 256) t.right
+  pub right_bytes : AllByRecursion (λ b. b < 256) t.right
   pub right_room : length t.right ≤ 4096
   pub left_location : t.left_location < 2 ^ 32
   pub right_location : t.right_location < 2 ^ 32
-  pub move_numbers : All (λ m. m < 2 ^ 16) t.moves
+  pub move_numbers : AllByRecursion (λ m. m < 2 ^ 16) t.moves
   pub move_room : length t.moves ≤ 4096
 
 -- a proper task that is written is read back as that very task

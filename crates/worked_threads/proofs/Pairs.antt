@@ -1,7 +1,7 @@
 -- Tests for a replay, for the states at a location, and for the pairs of two summaries that agree.
 use Rattle.std.proofs.Common.{◌≡◌, ℕ, ◌+◌, ◌<◌, Bool, true, false, not, ◌&&◌, ◌||◌, eqb, ltb, leb, List, [], ◌∷◌, length, Ok, sym, refl, ap, ◌∙◌, subst, ap₂, inl, inr, ⊎_elim}
 use Rattle.std.proofs.lemmas.Bool.{and_parts, and_from, or_cases, both_ways, not_from_false, eqb-true, eq-eqb, leb-true, ltb-true}
-use Rattle.std.specs.List.{AllByRecursion as All}
+use Rattle.std.specs.List.{AllByRecursion}
 use Rattle.locks.specs.Agreement.{bars, Unbarred}
 use Rattle.locks.specs.Decomposition.{Agreeing}
 use Rattle.locks.specs.declared.held.Held.{Held}
@@ -34,7 +34,7 @@ abbrev all_bytes : List ℕ → Bool
 all_bytes [] = true
 all_bytes (b ∷ bs) = ltb b 256 && all_bytes bs
 
-bytes_say : (bs : List ℕ) → all_bytes bs ≡ true → All (λ b. b < 256) bs
+bytes_say : (bs : List ℕ) → all_bytes bs ≡ true → AllByRecursion (λ b. b < 256) bs
 bytes_say [] t = tt
 bytes_say (b ∷ bs) t = let p = and_parts (ltb b 256) (all_bytes bs) t in (ltb-true b 256 p.0, bytes_say bs p.1)
 
@@ -92,7 +92,7 @@ abbrev unbarred : List Held → List Held → Bool
 unbarred [] ms = true
 unbarred (k ∷ ks) ms = unbarred_by k ms && unbarred ks ms
 
-says_unbarred_by : (k : Held) (ms : List Held) → All (λ m. bars k m ≡ false) ms → unbarred_by k ms ≡ true
+says_unbarred_by : (k : Held) (ms : List Held) → AllByRecursion (λ m. bars k m ≡ false) ms → unbarred_by k ms ≡ true
 says_unbarred_by k [] a = refl
 says_unbarred_by k (m ∷ ms) a =
     and_from (not (bars k m)) (unbarred_by k ms) (not_from_false (bars k m) a.0) (says_unbarred_by k ms a.1)

@@ -1,6 +1,6 @@
 -- What the definitions yield for the worked threads.
 use Rattle.std.specs.Prelude.{◌≡◌, ℕ, ◌≤◌, ◌⊎◌, List, [], ◌∷◌, length, Some, Ok, Err}
-use Rattle.std.specs.List.{slice_get, AllByRecursion as All}
+use Rattle.std.specs.List.{slice_get, AllByRecursion}
 use Rattle.locks.specs.declared.refusals.Part.TheVariants.{Summarise}
 use Rattle.locks.specs.declared.sets.LockSet.{LockSet}
 use Rattle.locks.specs.Graphs.{Graph}
@@ -36,7 +36,7 @@ pub record Counts (G : Graph) (n : ℕ) : Type 0 where
   pub states : List State
   pub count : length states ≡ n
   pub differ : Apart states
-  pub reached : All (Reached G) states
+  pub reached : AllByRecursion (Reached G) states
   pub no_other : (σ : State) → Reached G σ → (i : ℕ) × (slice_get states i ≡ Some σ)
   pub summary : List Entry
   pub answer : Summarised G (Ok n) summary
