@@ -14,7 +14,7 @@ use Rattle.readers.specs.Faults.{fault}
 use Rattle.readers.specs.Flow.{inside, goes_on_lem, end_at, flow}
 use Rattle.readers.specs.Reading.{run}
 use Rattle.readers.specs.Refusals.{WholeRun, Refused}
-use Rattle.readers.specs.Laws.{leads_in, ends_there}
+use Rattle.readers.specs.FormLaws.{leads_in, ends_there}
 use Rattle.readers.proofs.Sizes.{width_written, same_fault}
 
 -- where a run leads, from the offset `at` on

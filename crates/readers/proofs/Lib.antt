@@ -1,6 +1,11 @@
+pub mod Accepted
 pub mod Failing
+pub mod Laws
 pub mod Leading
 pub mod Meaning
 pub mod Reasons
 pub mod Sizes
+pub mod Spelling
+pub mod Steps
 pub mod Stuck
+pub mod Turns

@@ -7,7 +7,7 @@ use Rattle.readers.specs.declared.listing.fault.ListingFault.{ListingFault}
 use Rattle.readers.specs.Encoding.{encode, WellFormed}
 use Rattle.readers.specs.Place.{answer_of, commands_after, Reads, Means}
 use Rattle.readers.specs.Reading.{given, run, refusal, listing}
-use Rattle.readers.specs.Laws.{listings}
+use Rattle.readers.proofs.Laws.{listings}
 use Rattle.readers.proofs.Reasons.{reasons}
 
 meaning : (bytes : List ℕ) (before after : List Command) (r : Result (Unit {0}) ListingFault) (said : Result (List Command) ListingFault) → AllByRecursion (λ b. b < 256) bytes → listing bytes ≡ said → r ≡ answer_of said → after ≡ commands_after said before → Means bytes r after

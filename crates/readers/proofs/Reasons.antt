@@ -12,10 +12,11 @@ use Rattle.readers.specs.Faults.{fault}
 use Rattle.readers.specs.Flow.{most, flow}
 use Rattle.readers.specs.Reading.{highest, given, broken, run, or_flow, refusal, listing}
 use Rattle.readers.specs.Refusals.{operands, WrongBytes, WholeRun, Refused, RefusalsHaveTheirReasons}
-use Rattle.readers.specs.Steps.{broken_more, broken_many, broken_wrong}
-use Rattle.readers.specs.Turns.{refusal_some}
-use Rattle.readers.specs.Accepted.{few, some_command, bytes_written, locks_known}
-use Rattle.readers.specs.Laws.{all_locks, first_written, drop_written, refusal_encode}
+use Rattle.readers.proofs.Steps.{broken_more, broken_many, broken_wrong}
+use Rattle.readers.proofs.Turns.{refusal_some}
+use Rattle.readers.proofs.Accepted.{few, some_command, bytes_written, locks_known}
+use Rattle.readers.specs.FormLaws.{all_locks}
+use Rattle.readers.proofs.Laws.{first_written, drop_written, refusal_encode}
 use Rattle.readers.proofs.Leading.{led_some, led_refused, flow_outside, flow_on}
 use Rattle.readers.proofs.Sizes.{width_written, same_fault}
 use Rattle.readers.proofs.Stuck.{stuck, stuck_refused}

@@ -12,10 +12,10 @@ use Rattle.readers.specs.Faults.{fault}
 use Rattle.readers.specs.Flow.{most}
 use Rattle.readers.specs.Reading.{highest, go_on, broken}
 use Rattle.readers.specs.Refusals.{WrongThere, WrongBytes, Refused}
-use Rattle.readers.specs.Spelling.{spelt}
-use Rattle.readers.specs.Steps.{width_some}
-use Rattle.readers.specs.Accepted.{lock_known, spelt_written, width_drop}
-use Rattle.readers.specs.Laws.{knows_lock}
+use Rattle.readers.proofs.Spelling.{spelt}
+use Rattle.readers.proofs.Steps.{width_some}
+use Rattle.readers.proofs.Accepted.{lock_known, spelt_written, width_drop}
+use Rattle.readers.specs.FormLaws.{knows_lock}
 use Rattle.readers.proofs.Failing.{first_fails}
 use Rattle.readers.proofs.Sizes.{width_written, same_fault}
 

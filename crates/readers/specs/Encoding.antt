@@ -54,10 +54,10 @@ MayEnd (Either t u) = Unit {0}
 pub record WellFormed (cs : List Command) : Type 0 where
   pub few : length cs ≤ most
   pub locks_known : AllByRecursion LockIsKnown cs
-  pub leads_inside_lem : AllByRecursion (LeadsInside (length cs)) cs
+  pub leads_inside : AllByRecursion (LeadsInside (length cs)) cs
   pub ends : (front : List Command) × (last : Command) × (cs ≡ front ++ last ∷ []) × MayEnd last
 
--- bytes are read exactly where they are a well_formed run of commands, and then as that run
+-- bytes are read exactly where they are a well-formed run of commands, and then as that run
 pub record ListingsAreTheirCommands : Type 0 where
   pub read_back : (bs : List ℕ) (cs : List Command) → AllByRecursion (λ b. b < 256) bs → listing bs ≡ Ok cs → (bs ≡ encode cs) × WellFormed cs
   pub all_read : (cs : List Command) → WellFormed cs → listing (encode cs) ≡ Ok cs

@@ -1,4 +1,4 @@
--- The graph of a well_formed run of commands keeps the bounds, and its questions are answered command by command.
+-- The graph of a well-formed run of commands keeps the bounds, and its questions are answered command by command.
 use Rattle.std.specs.Prelude.{◌≡◌, ℕ, zero, suc, ◌+◌, ◌<◌, ◌≤◌, ◌⊎◌, List, [], ◌∷◌, length, get_or, Some, None, nat_lt, slice_index_or, refl}
 use Rattle.std.proofs.Common.{zero-add, arith, inl, inr, ⊎_elim, sym, ap, subst, ◌∙◌}
 use Rattle.std.proofs.ByRecursion.{All-get_or}
@@ -121,7 +121,7 @@ fits_at : (cs : List Command) → WellFormed cs → (l n : ℕ) (s : Step) → s
 fits_at cs w l n s e =
     ⊎_elim
     (λ h. command_fits (listing_graph cs) l (length cs) (slice_index_or cs l Stop) n s (length_steps 0 cs)
-    (All-get_or LockIsKnown cs l Stop h w.locks_known) (All-get_or (LeadsInside (length cs)) cs l Stop h w.leads_inside_lem) (leads_on cs w l h)
+    (All-get_or LockIsKnown cs l Stop h w.locks_known) (All-get_or (LeadsInside (length cs)) cs l Stop h w.leads_inside) (leads_on cs w l h)
     (ap (λ xs. slice_get xs n) (sym (steps_here l cs Stop h)) ∙ e))
     (λ h. let q = ap (λ xs. slice_get xs n) (sym (steps_outside l cs h)) ∙ e in let z : ◌≡◌ {A = ℕ} 0 1 = cc in zero_one z)
     (cases_lt l (length cs))

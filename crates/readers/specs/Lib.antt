@@ -2,13 +2,9 @@ pub mod Bytes
 pub mod Encoding
 pub mod Faults
 pub mod Flow
+pub mod FormLaws
 pub mod Graph
+pub mod GraphLaws
 pub mod Place
 pub mod Reading
 pub mod Refusals
-pub mod GraphLaws
-pub mod Laws
-pub mod Steps
-pub mod Turns
-pub mod Spelling
-pub mod Accepted

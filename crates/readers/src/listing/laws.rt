@@ -8,7 +8,7 @@ ghost use Rattle.readers.specs.Refusals.{RefusalsHaveTheirReasons};
 
 use crate::listing::Listing;
 
-// Bytes are read exactly where they are a well_formed run of commands, written one after another, and then as that run.
+// Bytes are read exactly where they are a well-formed run of commands, written one after another, and then as that run.
 pub fn listings_are_their_commands() -> u8
     ensures { ListingsAreTheirCommands }
 {

@@ -4,7 +4,7 @@ ghost use Rattle.std.specs.List.{slice_get};
 ghost use Rattle.readers.specs.Graph.{listing_graph, steps_of};
 ghost use Rattle.readers.specs.Place.{commands_in};
 ghost use Rattle.readers.specs.GraphLaws.{listing_bounded};
-ghost use Rattle.readers.specs.Laws.{well_formed};
+ghost use Rattle.readers.specs.FormLaws.{well_formed};
 
 use crate::listing::Command;
 use crate::listing::place::Listing;

@@ -1,6 +1,6 @@
 use Rattle.std.proofs.Common.{◌<◌, length, sym, ◌∙◌, arith, false-eqb}
 use Rattle.std.proofs.lemmas.Result.{err_from_is_err_and}
-use Rattle.readers.specs.Turns.{check_refused, check_counted}
+use Rattle.readers.proofs.Turns.{check_refused, check_counted}
 use Rattle.readers.proofs.listing.passes.check.Goals as goal
 
 pub returns-in_err-count : goal.returns-in_err-count

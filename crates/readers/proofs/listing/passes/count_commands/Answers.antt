@@ -2,8 +2,8 @@
 use Rattle.std.proofs.Common.{◌<◌, ◌≤◌, length, sym, ap, ◌∙◌, arith, true-eqb, false-eqb}
 use Rattle.readers.specs.Flow.{most}
 use Rattle.readers.specs.Reading.{run, given}
-use Rattle.readers.specs.Steps.{broken_many}
-use Rattle.readers.specs.Turns.{counted_more, counted_all}
+use Rattle.readers.proofs.Steps.{broken_many}
+use Rattle.readers.proofs.Turns.{counted_more, counted_all}
 use Rattle.readers.proofs.listing.passes.count_commands.Goals as goal
 
 pub returns-then-count-eq-MOST_COMMANDS : goal.returns-then-count-eq-MOST_COMMANDS

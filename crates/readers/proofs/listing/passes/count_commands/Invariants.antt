@@ -1,5 +1,5 @@
 use Rattle.std.proofs.Common.{length}
-use Rattle.readers.specs.Turns.{Counted}
+use Rattle.readers.proofs.Turns.{Counted}
 use Rattle.readers.proofs.listing.passes.count_commands.Given as goal
 
 abbrev pub invariant-loop-rest : goal.invariant-loop-rest

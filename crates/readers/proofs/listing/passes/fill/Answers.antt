@@ -1,7 +1,7 @@
 -- The commands so far and those to come are those of the whole.
 use Rattle.std.proofs.Common.{◌<◌, ◌++◌, length, vec_items, ap, ◌∙◌, arith}
 use Rattle.readers.specs.Reading.{run}
-use Rattle.readers.specs.Turns.{fill_room, fill_more}
+use Rattle.readers.proofs.Turns.{fill_room, fill_more}
 use Rattle.readers.proofs.listing.passes.fill.Goals as goal
 
 pub push_reserved-requires : goal.push_reserved-requires

@@ -2,7 +2,7 @@
 use Rattle.std.proofs.Common.{Err, vec_items, sym, refl, ap, ◌∙◌, arith}
 use Rattle.std.proofs.lemmas.Result.{err_from_is_err_and}
 use Rattle.readers.specs.Flow.{is_well_formed}
-use Rattle.readers.specs.Accepted.{few_commands, accepted_sound}
+use Rattle.readers.proofs.Accepted.{few_commands, accepted_sound}
 use Rattle.readers.proofs.Meaning.{means, reads_accepted, reads_refused}
 use Rattle.readers.proofs.listing.place.Listing.read.Goals as goal
 

@@ -6,8 +6,8 @@ use Rattle.readers.specs.declared.listing.fault.ListingFault.{ListingFault}
 use Rattle.readers.specs.Bytes.{first, width}
 use Rattle.readers.specs.Flow.{most, flow}
 use Rattle.readers.specs.Reading.{highest, given, broken, run, or_flow, refusal}
-use Rattle.readers.specs.Spelling.{within}
-use Rattle.readers.specs.Steps.{broken_more, run_more}
+use Rattle.readers.proofs.Spelling.{within}
+use Rattle.readers.proofs.Steps.{broken_more, run_more}
 
 -- n commands are counted, and rest is what is left: it is broken where the whole is
 abbrev pub Counted : List ℕ → List ℕ → ℕ → Type 0

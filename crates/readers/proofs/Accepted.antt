@@ -13,7 +13,7 @@ use Rattle.readers.specs.Encoding.{written, encode}
 use Rattle.readers.specs.Faults.{fault}
 use Rattle.readers.specs.Flow.{most, inside, goes_on_lem, command_lock_known, end_at, flow, all_lead_inside, all_locks_known, stops_at_the_end, is_well_formed}
 use Rattle.readers.specs.Reading.{highest, go_on, broken, taken, run, or_flow, refusal}
-use Rattle.readers.specs.Spelling.{Spelt, spelt}
+use Rattle.readers.proofs.Spelling.{Spelt, spelt}
 
 pub not_refused : {X : Type 0} (e : ListingFault) → ◌≡◌ {A = Result (Unit {0}) ListingFault} (Err e) (Ok tt) → X
 not_refused e h = let z : ◌≡◌ {A = ℕ} 0 1 = cc in absurd (omega arith)

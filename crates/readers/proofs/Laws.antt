@@ -1,96 +1,21 @@
 -- The law of listings: they are their commands, written one after another.
-use Rattle.std.specs.Prelude.{◌≡◌, ℕ, ◌+◌, ◌*◌, ◌/◌, ◌%◌, ◌<◌, ◌≤◌, Bool, true, false, cond, not, List, [], ◌∷◌, ◌++◌, length, drop, Ok, Err, Decides, Result, nat_le, nat_lt, refl}
-use Rattle.std.proofs.Common.{sym, ap, subst, ◌∙◌, arith}
+use Rattle.std.specs.Prelude.{◌≡◌, ℕ, ◌+◌, ◌*◌, ◌/◌, ◌%◌, ◌<◌, ◌≤◌, Bool, true, false, cond, not, List, [], ◌∷◌, ◌++◌, length, drop, Ok, Err, Result, refl}
+use Rattle.std.proofs.Common.{ap, subst, ◌∙◌, arith}
 use Rattle.std.specs.List.{AllByRecursion}
-use Rattle.std.proofs.lemmas.Bool.{cond-true, lt-ltb, le-leb, leb-true, and_from, and_parts}
-use Rattle.std.proofs.lemmas.Bool.Decides.{Decides-ltb, Decides-and}
-use Rattle.std.proofs.ByRecursion.{Decides-by_and}
+use Rattle.std.proofs.lemmas.Bool.{cond-true, lt-ltb, and_parts}
 use Rattle.readers.specs.declared.listing.command.Command.{Command}
 use Rattle.readers.specs.declared.listing.command.Command.TheVariants.{Stop, Pass, Take, Give, Goto, Either}
 use Rattle.readers.specs.declared.listing.fault.ListingFault.{ListingFault}
 use Rattle.readers.specs.declared.listing.fault.Wrong.TheVariants.{RunsOffTheEnd}
 use Rattle.readers.specs.Bytes.{first, width, locks}
-use Rattle.readers.specs.Encoding.{written, encode, LockIsKnown, LeadsInside, MayEnd, WellFormed, ListingsAreTheirCommands}
+use Rattle.readers.specs.Encoding.{written, encode, LockIsKnown, WellFormed, ListingsAreTheirCommands}
 use Rattle.readers.specs.Faults.{fault}
-use Rattle.readers.specs.Flow.{most, inside, goes_on_lem, command_lock_known, end_at, flow, all_lead_inside, all_locks_known, stops_at_the_end, is_well_formed}
+use Rattle.readers.specs.Flow.{most, inside, goes_on_lem, end_at, flow, all_lead_inside, stops_at_the_end}
 use Rattle.readers.specs.Reading.{highest, given, broken, run, or_flow, refusal, listing}
-use Rattle.readers.specs.Steps.{run_more, broken_more}
-use Rattle.readers.specs.Turns.{refusal_some}
-use Rattle.readers.specs.Accepted.{not_broken, bytes_written, accepted_sound}
-
--- the computed tests say what the words say
-pub knows_lock : (c : Command) → Decides (command_lock_known c) (LockIsKnown c)
-knows_lock Stop = (λ _. tt, λ _. refl)
-knows_lock Pass = (λ _. tt, λ _. refl)
-knows_lock (Take k) = Decides-ltb k locks
-knows_lock (Give k) = Decides-ltb k locks
-knows_lock (Goto t) = (λ _. tt, λ _. refl)
-knows_lock (Either t u) = (λ _. tt, λ _. refl)
-
-pub leads_in : (n : ℕ) (c : Command) → Decides (inside n c) (LeadsInside n c)
-leads_in n Stop = (λ _. tt, λ _. refl)
-leads_in n Pass = (λ _. tt, λ _. refl)
-leads_in n (Take k) = (λ _. tt, λ _. refl)
-leads_in n (Give k) = (λ _. tt, λ _. refl)
-leads_in n (Goto t) = Decides-ltb t n
-leads_in n (Either t u) = Decides-and (nat_lt t n) (nat_lt u n) (Decides-ltb t n) (Decides-ltb u n)
-
-pub all_locks : (cs : List Command) → Decides (all_locks_known cs) (AllByRecursion LockIsKnown cs)
-all_locks = Decides-by_and command_lock_known LockIsKnown all_locks_known knows_lock refl (λ _ _. refl)
-
-pub all_inside : (n : ℕ) (cs : List Command) → Decides (all_lead_inside n cs) (AllByRecursion (LeadsInside n) cs)
-all_inside n = Decides-by_and (inside n) (LeadsInside n) (all_lead_inside n) (leads_in n) refl (λ _ _. refl)
-
-pub may_end : (c : Command) → not (goes_on_lem c) ≡ true → MayEnd c
-may_end Stop h = tt
-may_end Pass h = let z : true ≡ false = sym h in let y : ◌≡◌ {A = ℕ} 0 1 = cc in absurd (omega arith)
-may_end (Take k) h = let z : true ≡ false = sym h in let y : ◌≡◌ {A = ℕ} 0 1 = cc in absurd (omega arith)
-may_end (Give k) h = let z : true ≡ false = sym h in let y : ◌≡◌ {A = ℕ} 0 1 = cc in absurd (omega arith)
-may_end (Goto t) h = tt
-may_end (Either t u) h = tt
-
-pub ends_there : (c : Command) → MayEnd c → not (goes_on_lem c) ≡ true
-ends_there Stop h = refl
-ends_there Pass h = absurd h
-ends_there (Take k) h = absurd h
-ends_there (Give k) h = absurd h
-ends_there (Goto t) h = refl
-ends_there (Either t u) h = refl
-
-abbrev Ends : List Command → Type 0
-Ends cs = (front : List Command) × (last : Command) × (cs ≡ front ++ last ∷ []) × MayEnd last
-
-stops : (cs : List Command) → stops_at_the_end cs ≡ true → Ends cs
-stops [] h = let y : ◌≡◌ {A = ℕ} 0 1 = cc in absurd (omega arith)
-stops (c ∷ []) h = ([], c, refl, may_end c h)
-stops (c ∷ d ∷ cs) h =
-    let e = stops (d ∷ cs) h in
-    (c ∷ e.0, e.1, ap (λ l. c ∷ l) e.2, e.3)
-
-stopped : (front : List Command) (last : Command) → MayEnd last → stops_at_the_end (front ++ last ∷ []) ≡ true
-stopped [] last h = ends_there last h
-stopped (c ∷ []) last h = ends_there last h
-stopped (c ∷ d ∷ front) last h = stopped (d ∷ front) last h
-
--- the computed test is the one that the words give
-pub well_formed : (cs : List Command) → Decides (is_well_formed cs) (WellFormed cs)
-well_formed cs = (
-  λ h.
-      let p = and_parts (nat_le (length cs) most) _ h in
-      let q = and_parts (all_locks_known cs) _ p.1 in
-      let r = and_parts (all_lead_inside (length cs) cs) (stops_at_the_end cs) q.1 in
-      record {
-        few = leb-true _ _ p.0;
-        locks_known = (all_locks cs).0 q.0;
-        leads_inside_lem = (all_inside (length cs) cs).0 r.0;
-        ends = stops cs r.1;
-      },
-  λ w.
-      let e = w.ends in
-      and_from _ _ (le-leb _ _ w.few)
-      (and_from _ _ ((all_locks cs).1 w.locks_known)
-      (and_from _ _ ((all_inside (length cs) cs).1 w.leads_inside_lem) (ap stops_at_the_end e.2 ∙ stopped e.0 e.1 e.3))),
-)
+use Rattle.readers.proofs.Steps.{run_more, broken_more}
+use Rattle.readers.proofs.Turns.{refusal_some}
+use Rattle.readers.proofs.Accepted.{not_broken, bytes_written, accepted_sound}
+use Rattle.readers.specs.FormLaws.{all_inside, stopped, well_formed}
 
 -- a written command is read
 pub first_written : (c : Command) (rest : List ℕ) → LockIsKnown c → first highest (written c ++ rest) ≡ Ok c
@@ -172,7 +97,7 @@ encoded_read cs w =
     let stop : stops_at_the_end cs ≡ true = ap stops_at_the_end e.2 ∙ stopped e.0 e.1 e.3 in
     let fine : refusal (encode cs) ≡ Ok tt =
     refusal_encode cs (has_some cs stop) w.few w.locks_known
-    ∙ flow_all (length cs) cs ((all_inside (length cs) cs).1 w.leads_inside_lem) stop in
+    ∙ flow_all (length cs) cs ((all_inside (length cs) cs).1 w.leads_inside) stop in
     ap (λ r. given r (run 0 (encode cs))) fine ∙ ap Ok (run_encode cs w.locks_known)
 
 given_is : {X : Type 0} (r : Result (Unit {0}) ListingFault) (x y : X) → given r x ≡ Ok y → (r ≡ Ok tt) × (x ≡ y)
