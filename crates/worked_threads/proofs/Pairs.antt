@@ -21,7 +21,7 @@ use Rattle.readers.specs.declared.listing.command.Command.{Command}
 use Rattle.readers.specs.Graph.{listing_graph}
 use Rattle.readers.specs.Reading.{listing}
 use Rattle.readers.specs.GraphLaws.{listing_bounded}
-use Rattle.readers.specs.Laws.{listings}
+use Rattle.readers.proofs.Laws.{listings}
 use Rattle.search.specs.declared.entries.Entry.{Entry}
 use Rattle.search.specs.Summaries.{state_in, ListedAt, Summary}
 use Rattle.worked_threads.specs.Worked.{Shortest, TwoAt}
