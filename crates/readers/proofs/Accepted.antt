@@ -11,7 +11,7 @@ use Rattle.readers.specs.declared.listing.fault.ListingFault.{ListingFault}
 use Rattle.readers.specs.Bytes.{first, width, locks}
 use Rattle.readers.specs.Encoding.{written, encode}
 use Rattle.readers.specs.Faults.{fault}
-use Rattle.readers.specs.Flow.{most, inside, goes_on_lem, command_lock_known, end_at, flow, all_lead_inside, all_locks_known, stops_at_the_end, is_well_formed}
+use Rattle.readers.specs.Flow.{most, inside, goes_on, command_lock_known, end_at, flow, all_lead_inside, all_locks_known, stops_at_the_end, is_well_formed}
 use Rattle.readers.specs.Reading.{highest, go_on, broken, taken, run, or_flow, refusal}
 use Rattle.readers.proofs.Spelling.{Spelt, spelt}
 
@@ -99,8 +99,8 @@ bytes_written zero n at (b ∷ bs) a h =
 bytes_written (suc s) n at (b ∷ bs) a h = bytes_written s n (suc at) bs a.1 h
 
 -- no command leads outside, and the last one does not lead on
-ends_well : (at : ℕ) (c : Command) → end_at at c ≡ Ok tt → not (goes_on_lem c) ≡ true
-ends_well at c = go (goes_on_lem c)
+ends_well : (at : ℕ) (c : Command) → end_at at c ≡ Ok tt → not (goes_on c) ≡ true
+ends_well at c = go (goes_on c)
   where
     go : (b : Bool) → ◌≡◌ {A = Result (Unit {0}) ListingFault} (cond b (Err (fault RunsOffTheEnd at)) (Ok tt)) (Ok tt) → not b ≡ true
     go true h = not_refused _ h

@@ -10,7 +10,7 @@ use Rattle.readers.specs.declared.listing.fault.Wrong.TheVariants.{RunsOffTheEnd
 use Rattle.readers.specs.Bytes.{first, width, locks}
 use Rattle.readers.specs.Encoding.{written, encode, LockIsKnown, WellFormed, ListingsAreTheirCommands}
 use Rattle.readers.specs.Faults.{fault}
-use Rattle.readers.specs.Flow.{most, inside, goes_on_lem, end_at, flow, all_lead_inside, stops_at_the_end}
+use Rattle.readers.specs.Flow.{most, inside, goes_on, end_at, flow, all_lead_inside, stops_at_the_end}
 use Rattle.readers.specs.Reading.{highest, given, broken, run, or_flow, refusal, listing}
 use Rattle.readers.proofs.Steps.{run_more, broken_more}
 use Rattle.readers.proofs.Turns.{refusal_some}
@@ -54,8 +54,8 @@ broken_encode (c ∷ cs) n at room h =
     ∙ ap (broken 0 (n + 1) (at + width c)) (drop_written c (encode cs))
     ∙ broken_encode cs (n + 1) (at + width c) left h.1
 
-ends_so : (at : ℕ) (c : Command) → not (goes_on_lem c) ≡ true → end_at at c ≡ Ok tt
-ends_so at c = go (goes_on_lem c)
+ends_so : (at : ℕ) (c : Command) → not (goes_on c) ≡ true → end_at at c ≡ Ok tt
+ends_so at c = go (goes_on c)
   where
     go : (b : Bool) → not b ≡ true → ◌≡◌ {A = Result (Unit {0}) ListingFault} (cond b (Err (fault RunsOffTheEnd at)) (Ok tt)) (Ok tt)
     go true h = let y : ◌≡◌ {A = ℕ} 0 1 = cc in absurd (omega arith)

@@ -11,7 +11,7 @@ use Rattle.readers.specs.declared.listing.fault.ListingFault.{ListingFault}
 use Rattle.readers.specs.Bytes.{width}
 use Rattle.readers.specs.Encoding.{written, encode, LeadsInside, MayEnd}
 use Rattle.readers.specs.Faults.{fault}
-use Rattle.readers.specs.Flow.{inside, goes_on_lem, end_at, flow}
+use Rattle.readers.specs.Flow.{inside, goes_on, end_at, flow}
 use Rattle.readers.specs.Reading.{run}
 use Rattle.readers.specs.Refusals.{WholeRun, Refused}
 use Rattle.readers.specs.FormLaws.{leads_in, ends_there}
@@ -54,16 +54,16 @@ led_more MissingTarget n at c cs place fine h =
 led_more RunsOffTheEnd n at c cs place fine h =
     (c ∷ h.0, h.1, ap (λ l. c ∷ l) h.2, further c h.0 at place h.3, (fine, h.4), h.5)
 
-no_end : (c : Command) → goes_on_lem c ≡ true → MayEnd c → ⊥
-no_end c h m = let e = ends_there c m in let f : not (goes_on_lem c) ≡ false = ap not h in let z : ◌≡◌ {A = ℕ} 0 1 = clash in omega arith
+no_end : (c : Command) → goes_on c ≡ true → MayEnd c → ⊥
+no_end c h m = let e = ends_there c m in let f : not (goes_on c) ≡ false = ap not h in let z : ◌≡◌ {A = ℕ} 0 1 = clash in omega arith
   where
     clash : ◌≡◌ {A = ℕ} 0 1
-    clash = let e = ends_there c m in let f : not (goes_on_lem c) ≡ false = ap not h in cc
+    clash = let e = ends_there c m in let f : not (goes_on c) ≡ false = ap not h in cc
 
 led_end : (n at : ℕ) (c : Command) (f : ListingFault) → LeadsInside n c → end_at at c ≡ Err f → Led f.wrong n at (c ∷ []) f.at
-led_end n at c f fine = go (goes_on_lem c) refl
+led_end n at c f fine = go (goes_on c) refl
   where
-    go : (b : Bool) → goes_on_lem c ≡ b → ◌≡◌ {A = Result (Unit {0}) ListingFault} (cond b (Err (fault RunsOffTheEnd at)) (Ok tt)) (Err f) → Led f.wrong n at (c ∷ []) f.at
+    go : (b : Bool) → goes_on c ≡ b → ◌≡◌ {A = Result (Unit {0}) ListingFault} (cond b (Err (fault RunsOffTheEnd at)) (Ok tt)) (Err f) → Led f.wrong n at (c ∷ []) f.at
     go true e h =
         subst (λ g. Led g.wrong n at (c ∷ []) g.at) (same_fault _ f h)
         ([], c, refl, omega arith, (fine, tt), no_end c e)

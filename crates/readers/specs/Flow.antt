@@ -22,13 +22,13 @@ inside n (Goto t) = nat_lt t n
 inside n (Either t u) = nat_lt t n && nat_lt u n
 
 -- the command leads on to the next one
-abbrev pub goes_on_lem : Command → Bool
-goes_on_lem Stop = false
-goes_on_lem Pass = true
-goes_on_lem (Take k) = true
-goes_on_lem (Give k) = true
-goes_on_lem (Goto t) = false
-goes_on_lem (Either t u) = false
+abbrev pub goes_on : Command → Bool
+goes_on Stop = false
+goes_on Pass = true
+goes_on (Take k) = true
+goes_on (Give k) = true
+goes_on (Goto t) = false
+goes_on (Either t u) = false
 
 -- the lock is one that there is
 abbrev pub command_lock_known : Command → Bool
@@ -41,7 +41,7 @@ command_lock_known (Either t u) = true
 
 -- what a run that ends with the command c at this offset is refused for
 abbrev pub end_at : ℕ → Command → Result (Unit {0}) ListingFault
-end_at at c = cond (goes_on_lem c) (Err (fault RunsOffTheEnd at)) (Ok tt)
+end_at at c = cond (goes_on c) (Err (fault RunsOffTheEnd at)) (Ok tt)
 
 -- the first command that leads to no command, else what the last one is refused for: `end` if there is none
 abbrev pub flow : ℕ → Result (Unit {0}) ListingFault → ℕ → List Command → Result (Unit {0}) ListingFault
@@ -59,7 +59,7 @@ all_locks_known (c ∷ cs) = command_lock_known c && all_locks_known cs
 -- there is a last command, and it does not lead on
 abbrev pub stops_at_the_end : List Command → Bool
 stops_at_the_end [] = false
-stops_at_the_end (c ∷ []) = not (goes_on_lem c)
+stops_at_the_end (c ∷ []) = not (goes_on c)
 stops_at_the_end (c ∷ d ∷ cs) = stops_at_the_end (d ∷ cs)
 
 abbrev pub is_well_formed : List Command → Bool

@@ -9,7 +9,7 @@ use Rattle.readers.specs.declared.listing.command.Command.{Command}
 use Rattle.readers.specs.declared.listing.command.Command.TheVariants.{Stop, Pass, Take, Give, Goto, Either}
 use Rattle.readers.specs.Bytes.{locks}
 use Rattle.readers.specs.Encoding.{LockIsKnown, LeadsInside, MayEnd, WellFormed}
-use Rattle.readers.specs.Flow.{most, inside, goes_on_lem, command_lock_known, all_lead_inside, all_locks_known, stops_at_the_end, is_well_formed}
+use Rattle.readers.specs.Flow.{most, inside, goes_on, command_lock_known, all_lead_inside, all_locks_known, stops_at_the_end, is_well_formed}
 
 -- the computed tests say what the words say
 pub knows_lock : (c : Command) → Decides (command_lock_known c) (LockIsKnown c)
@@ -34,7 +34,7 @@ all_locks = Decides-by_and command_lock_known LockIsKnown all_locks_known knows_
 pub all_inside : (n : ℕ) (cs : List Command) → Decides (all_lead_inside n cs) (AllByRecursion (LeadsInside n) cs)
 all_inside n = Decides-by_and (inside n) (LeadsInside n) (all_lead_inside n) (leads_in n) refl (λ _ _. refl)
 
-pub may_end : (c : Command) → not (goes_on_lem c) ≡ true → MayEnd c
+pub may_end : (c : Command) → not (goes_on c) ≡ true → MayEnd c
 may_end Stop h = tt
 may_end Pass h = let z : true ≡ false = sym h in let y : ◌≡◌ {A = ℕ} 0 1 = cc in absurd (omega arith)
 may_end (Take k) h = let z : true ≡ false = sym h in let y : ◌≡◌ {A = ℕ} 0 1 = cc in absurd (omega arith)
@@ -42,7 +42,7 @@ may_end (Give k) h = let z : true ≡ false = sym h in let y : ◌≡◌ {A = �
 may_end (Goto t) h = tt
 may_end (Either t u) h = tt
 
-pub ends_there : (c : Command) → MayEnd c → not (goes_on_lem c) ≡ true
+pub ends_there : (c : Command) → MayEnd c → not (goes_on c) ≡ true
 ends_there Stop h = refl
 ends_there Pass h = absurd h
 ends_there (Take k) h = absurd h

@@ -17,7 +17,7 @@ use Rattle.search.specs.declared.playing.MoveFault.TheVariants.{NoStep, CannotBe
 use Rattle.search.specs.declared.replaying.ReplayFault.{ReplayFault}
 use Rattle.search.specs.declared.replaying.ReplayFault.TheVariants as fault
 use Rattle.search.specs.Playing.{NoSuchStep, BlockedStep, Made}
-use Rattle.search.specs.Replaying.{Stops, BothThere, fault_at_lem, MovesSay, ReplaySays, Replayed}
+use Rattle.search.specs.Replaying.{Stops, BothThere, fault_at, MovesSay, ReplaySays, Replayed}
 use Rattle.locks.proofs.Interleaving.{runs_more}
 use Rattle.locks.proofs.Basics.{some_none, some_some, nth_there}
 
@@ -35,12 +35,12 @@ stops G H ns i d Why h r w =
     record { here = d; before = r; n = get_or ns i 0; there = slice_get-get_or ns i 0 h; why = w }
 
 stops_by : (G H : Graph) (ns : List ℕ) (i : ℕ) (d : Configuration) (f : MoveFault) → i < length ns → Runs G H (from_starts G H) (take i ns) d → Made G H d (get_or ns i 0) (Err f)
-    → MovesSay G H ns (Err (fault_at_lem f i))
+    → MovesSay G H ns (Err (fault_at f i))
 stops_by G H ns i d NoStep h r m = stops G H ns i d (NoSuchStep G H) h r m
 stops_by G H ns i d CannotBeTaken h r m = stops G H ns i d (BlockedStep G H) h r m
 
 pub stops_there : (G H : Graph) (ns : List ℕ) (i : ℕ) (d : Configuration) (f : MoveFault) (s : ReplayFault) → i < length ns → Runs G H (from_starts G H) (take i ns) d → Made G H d (get_or ns i 0) (Err f)
-    → s ≡ fault_at_lem f i → MovesSay G H ns (Err s)
+    → s ≡ fault_at f i → MovesSay G H ns (Err s)
 stops_there G H ns i d f s h r m e = subst (λ x. MovesSay G H ns (Err x)) (sym e) (stops_by G H ns i d f h r m)
 
 -- the answer as a function, so that there is only one

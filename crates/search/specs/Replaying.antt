@@ -22,9 +22,9 @@ replay_refusal (CannotBeTaken i) = record { number = 20; place = i; part = Repla
 replay_refusal (EndsElsewhere n) = record { number = 21; place = n; part = Replay }
 
 -- a move that cannot be made, at its place in the schedule
-abbrev pub fault_at_lem : MoveFault → ℕ → ReplayFault
-fault_at_lem moves.NoStep i = NoStep i
-fault_at_lem moves.CannotBeTaken i = CannotBeTaken i
+abbrev pub fault_at : MoveFault → ℕ → ReplayFault
+fault_at moves.NoStep i = NoStep i
+fault_at moves.CannotBeTaken i = CannotBeTaken i
 
 -- the moves before place i can be made from both starts, and then there is something about the move at i
 pub record Stops (G H : Graph) (ns : List ℕ) (i : ℕ) (Why : Configuration → ℕ → Type 0) : Type 0 where

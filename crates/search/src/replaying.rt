@@ -1,7 +1,7 @@
 // The replay of a schedule.
 ghost use Rattle.std.specs.Prelude.{◌≡◌};
 ghost use Rattle.search.specs.Folders.{contents};
-ghost use Rattle.search.specs.Replaying.{fault_at_lem, replay_refusal, MovesSay, ReplaySays, Replayed};
+ghost use Rattle.search.specs.Replaying.{fault_at, replay_refusal, MovesSay, ReplaySays, Replayed};
 
 use crate::folders::Folder;
 use crate::playing::{MoveFault, at_starts, make_move};
@@ -99,7 +99,7 @@ fn make_moves<L: ThreadGraph, R: ThreadGraph>(
 }
 
 fn fault_at(fault: MoveFault, place: usize) -> ReplayFault
-    ensures { result ≡ fault_at_lem fault place }
+    ensures { result ≡ fault_at fault place }
 {
     match fault {
         MoveFault::NoStep => ReplayFault::NoStep(place),

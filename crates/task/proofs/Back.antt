@@ -6,7 +6,7 @@ use Rattle.task.specs.declared.fault.TextFault.{TextFault}
 use Rattle.task.specs.declared.fault.Wrong.{Wrong}
 use Rattle.task.specs.declared.fault.Wrong.TheVariants.{Byte, Move}
 use Rattle.task.specs.Pieces.{lines}
-use Rattle.task.specs.Spelled.{TaskValue, told, at_line_lem, line_of, bytes, pair_of, move_numbers_of, spelled}
+use Rattle.task.specs.Spelled.{TaskValue, told, at_line, line_of, bytes, pair_of, move_numbers_of, spelled}
 use Rattle.task.specs.Words.{byte_of, move_number}
 use Rattle.task.specs.Written.{byte_word, move_word, line_text, ending, written, Proper, WrittenReadsBack}
 use Rattle.task.proofs.Lines.{opens}
@@ -82,7 +82,7 @@ module _ (closed : Bool) (t : TaskValue) (proper : Proper t) where
       let right = line_back (codes "right") bytes _ _ _ t.right right-plain (first_line_lem (codes "right") _ pair_text right-plain) (bytes_back t.right proper.right_bytes proper.right_room) in
       let pair = line_back (codes "pair") pair_of _ _ _ (t.left_location, t.right_location) pair_plain (first_line_lem (codes "pair") _ move_text pair_plain) (pair_back t.left_location t.right_location proper.left_location proper.right_location) in
       let moves = line_back (codes "moves") move_numbers_of _ _ [] t.moves move_plain move_line (moves_back t.moves proper.move_numbers proper.move_room) in
-      all_lines (written closed t) (t.left, lines right_text) (ap (at_line_lem 1) left) (t.right, lines pair_text) (ap (at_line_lem 2) right) ((t.left_location, t.right_location), lines move_text) (ap (at_line_lem 3) pair) (t.moves, []) (ap (at_line_lem 4) moves)
+      all_lines (written closed t) (t.left, lines right_text) (ap (at_line 1) left) (t.right, lines pair_text) (ap (at_line 2) right) ((t.left_location, t.right_location), lines move_text) (ap (at_line 3) pair) (t.moves, []) (ap (at_line 4) moves)
 
 pub written_reads_back : WrittenReadsBack
 written_reads_back closed t proper = reads_back closed t proper

@@ -9,8 +9,8 @@ use Rattle.task.specs.declared.fault.TextFault.{TextFault}
 use Rattle.task.specs.declared.fault.Wrong.{Wrong}
 use Rattle.task.specs.declared.fault.Wrong.TheVariants.{Byte, Move, Number, TooMany}
 use Rattle.task.specs.Pieces.{lines}
-use Rattle.task.specs.Spelled.{TaskValue, told, and_then, or_wrong, each, bytes, move_numbers_of, pair_of, opened, line_of, at_line_lem, ended, spelled}
-use Rattle.task.specs.Words.{value_from, number_of, hex_digit_lem, both, byte_of, move_number}
+use Rattle.task.specs.Spelled.{TaskValue, told, and_then, or_wrong, each, bytes, move_numbers_of, pair_of, opened, line_of, at_line, ended, spelled}
+use Rattle.task.specs.Words.{value_from, number_of, hex_digit, both, byte_of, move_number}
 use Rattle.task.specs.Written.{Proper, ReadIsProper}
 
 none_some : {X : Type 0} (x : X) → ◌≡◌ {A = Option X} None (Some x) → ⊥
@@ -32,7 +32,7 @@ under_some limit v h x e = let same : v ≡ x = cc in omega arith
 hex_range : (low high back c : ℕ) → high < back + 16 → (leb low c && leb c high) ≡ true → Under 16 (Some (c - back))
 hex_range low high back c h e = let top = leb-true c high (and_parts (leb low c) (leb c high) e).1 in under_some 16 (c - back) (omega arith)
 
-hex_under : (c : ℕ) → Under 16 (hex_digit_lem c)
+hex_under : (c : ℕ) → Under 16 (hex_digit c)
 hex_under c =
     cond_both _ _ _ (Under 16) (hex_range 48 57 48 c (omega arith)) (λ _.
     cond_both _ _ _ (Under 16) (hex_range 97 102 87 c (omega arith)) (λ _.
@@ -46,7 +46,7 @@ joined_under (Some h) (Some l) ha hb = under_some 256 (16 * h + l) (omega (arith
 byte_under : (w : List ℕ) → Under 256 (byte_of w)
 byte_under [] = under_none 256
 byte_under (a ∷ []) = under_none 256
-byte_under (a ∷ b ∷ []) = joined_under (hex_digit_lem a) (hex_digit_lem b) (hex_under a) (hex_under b)
+byte_under (a ∷ b ∷ []) = joined_under (hex_digit a) (hex_digit b) (hex_under a) (hex_under b)
 byte_under (a ∷ b ∷ c ∷ cs) = under_none 256
 
 number_under : (limit top : ℕ) → limit < top → (w : List ℕ) → Under top (number_of limit w)
@@ -110,11 +110,11 @@ told_ok : {A B E : Type 0} (view : A → B) (r : Result A E) (y : B) → told vi
 told_ok view (Ok x) y h = (x, refl, (cc))
 told_ok view (Err e) y h = absurd (err_ok e y h)
 
-at_ok : {X : Type 0} (n : ℕ) (r : Result X Wrong) (x : X) → at_line_lem n r ≡ Ok x → r ≡ Ok x
+at_ok : {X : Type 0} (n : ℕ) (r : Result X Wrong) (x : X) → at_line n r ≡ Ok x → r ≡ Ok x
 at_ok n (Ok y) x h = let same : y ≡ x = cc in ap Ok same
 at_ok n (Err w) x h = absurd (err_ok _ x h)
 
-line_ok : {X : Type 0} (n : ℕ) (keyword : List ℕ) (spells : List (List ℕ) → Result X Wrong) (ls : List (List ℕ)) (p : X × List (List ℕ)) → at_line_lem n (line_of keyword spells ls) ≡ Ok p → (ws : List (List ℕ)) × (spells ws ≡ Ok p.0)
+line_ok : {X : Type 0} (n : ℕ) (keyword : List ℕ) (spells : List (List ℕ) → Result X Wrong) (ls : List (List ℕ)) (p : X × List (List ℕ)) → at_line n (line_of keyword spells ls) ≡ Ok p → (ws : List (List ℕ)) × (spells ws ≡ Ok p.0)
 line_ok n keyword spells ls p h =
     let open_is = then_ok (opened keyword ls) (λ o. told (λ x. (x, o.1)) (spells o.0)) p (at_ok n (line_of keyword spells ls) p h) in
     let read = told_ok (λ x. (x, open_is.0.1)) (spells open_is.0.0) p open_is.2 in
@@ -135,21 +135,21 @@ abbrev at_end : List ℕ → List ℕ → ℕ × ℕ → List ℕ × List (List 
 at_end left right pair moves = ended moves.1 (record { left = left; right = right; left_location = pair.0; right_location = pair.1; moves = moves.0 })
 
 abbrev after_pair : List ℕ → List ℕ → (ℕ × ℕ) × List (List ℕ) → Result TaskValue TextFault
-after_pair left right pair = and_then (at_line_lem 4 (line_of (codes "moves") move_numbers_of pair.1)) (at_end left right pair.0)
+after_pair left right pair = and_then (at_line 4 (line_of (codes "moves") move_numbers_of pair.1)) (at_end left right pair.0)
 
 abbrev after_right : List ℕ → List ℕ × List (List ℕ) → Result TaskValue TextFault
-after_right left right = and_then (at_line_lem 3 (line_of (codes "pair") pair_of right.1)) (after_pair left right.0)
+after_right left right = and_then (at_line 3 (line_of (codes "pair") pair_of right.1)) (after_pair left right.0)
 
 abbrev after_left : List ℕ × List (List ℕ) → Result TaskValue TextFault
-after_left left = and_then (at_line_lem 2 (line_of (codes "right") bytes left.1)) (after_right left.0)
+after_left left = and_then (at_line 2 (line_of (codes "right") bytes left.1)) (after_right left.0)
 
 pub read_is_proper : ReadIsProper
 unfolding spelled
 read_is_proper text t h =
-    let left = then_ok (at_line_lem 1 (line_of (codes "left") bytes (lines text))) after_left t h in
-    let right = then_ok (at_line_lem 2 (line_of (codes "right") bytes left.0.1)) (after_right left.0.0) t left.2 in
-    let pair = then_ok (at_line_lem 3 (line_of (codes "pair") pair_of right.0.1)) (after_pair left.0.0 right.0.0) t right.2 in
-    let moves = then_ok (at_line_lem 4 (line_of (codes "moves") move_numbers_of pair.0.1)) (at_end left.0.0 right.0.0 pair.0.0) t pair.2 in
+    let left = then_ok (at_line 1 (line_of (codes "left") bytes (lines text))) after_left t h in
+    let right = then_ok (at_line 2 (line_of (codes "right") bytes left.0.1)) (after_right left.0.0) t left.2 in
+    let pair = then_ok (at_line 3 (line_of (codes "pair") pair_of right.0.1)) (after_pair left.0.0 right.0.0) t right.2 in
+    let moves = then_ok (at_line 4 (line_of (codes "moves") move_numbers_of pair.0.1)) (at_end left.0.0 right.0.0 pair.0.0) t pair.2 in
     let left-line = line_ok 1 (codes "left") bytes (lines text) left.0 left.1 in
     let right-line = line_ok 2 (codes "right") bytes left.0.1 right.0 right.1 in
     let pair_line = line_ok 3 (codes "pair") pair_of right.0.1 pair.0 pair.1 in

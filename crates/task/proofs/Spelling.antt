@@ -10,14 +10,14 @@ use Rattle.std.specs.List.{AllByRecursion}
 use Rattle.std.specs.Str.{all_ascii_digits}
 use Rattle.task.specs.declared.fault.Wrong.{Wrong}
 use Rattle.task.specs.Spelled.{each}
-use Rattle.task.specs.Words.{value_from, number_of, hex_digit_lem, byte_of, move_number}
+use Rattle.task.specs.Words.{value_from, number_of, hex_digit, byte_of, move_number}
 use Rattle.task.specs.Written.{hex_letter, byte_word, move_word}
 use Rattle.task.proofs.Digits.{number_is}
 use Rattle.task.proofs.Lines.{each_more}
 use Rattle.task.proofs.Pieced.{Lacks}
 
 -- bytes
-hex_back : (d : ℕ) → d < 16 → hex_digit_lem (hex_letter d) ≡ Some d
+hex_back : (d : ℕ) → d < 16 → hex_digit (hex_letter d) ≡ Some d
 hex_back d h = grind (arith, nat_tests)
 
 high_digit : (b : ℕ) → b < 256 → b / 16 < 16

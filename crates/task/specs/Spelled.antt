@@ -60,9 +60,9 @@ opened keyword (l ∷ ls) = opened_by keyword (words l) ls
 abbrev pub line_of : {X : Type 0} → List ℕ → (List (List ℕ) → Result X Wrong) → List (List ℕ) → Result (X × List (List ℕ)) Wrong
 line_of keyword spells ls = and_then (opened keyword ls) (λ o. told (λ x. (x, o.1)) (spells o.0))
 
-abbrev pub at_line_lem : {X : Type 0} → ℕ → Result X Wrong → Result X TextFault
-at_line_lem n (Ok x) = Ok x
-at_line_lem n (Err w) = Err (record { line = n; wrong = w })
+abbrev pub at_line : {X : Type 0} → ℕ → Result X Wrong → Result X TextFault
+at_line n (Ok x) = Ok x
+at_line n (Err w) = Err (record { line = n; wrong = w })
 
 abbrev pub ended : List (List ℕ) → TaskValue → Result TaskValue TextFault
 ended [] t = Ok t
@@ -70,10 +70,10 @@ ended (l ∷ ls) t = Err (record { line = 5; wrong = Surplus })
 
 unfoldable pub spelled : List ℕ → Result TaskValue TextFault
 spelled text =
-    and_then (at_line_lem 1 (line_of (codes "left") bytes (lines text))) (λ left.
-    and_then (at_line_lem 2 (line_of (codes "right") bytes left.1)) (λ right.
-    and_then (at_line_lem 3 (line_of (codes "pair") pair_of right.1)) (λ pair.
-    and_then (at_line_lem 4 (line_of (codes "moves") move_numbers_of pair.1)) (λ moves.
+    and_then (at_line 1 (line_of (codes "left") bytes (lines text))) (λ left.
+    and_then (at_line 2 (line_of (codes "right") bytes left.1)) (λ right.
+    and_then (at_line 3 (line_of (codes "pair") pair_of right.1)) (λ pair.
+    and_then (at_line 4 (line_of (codes "moves") move_numbers_of pair.1)) (λ moves.
     ended moves.1 (record {
       left = left.0;
       right = right.0;

@@ -17,8 +17,8 @@ number_of limit (c ∷ cs) =
 abbrev within : ℕ → ℕ → ℕ → Bool
 within low high c = nat_le low c && nat_le c high
 
-abbrev pub hex_digit_lem : ℕ → Option ℕ
-hex_digit_lem c =
+abbrev pub hex_digit : ℕ → Option ℕ
+hex_digit c =
     cond (within 48 57 c) (Some (c - 48)) (cond (within 97 102 c) (Some (c - 87)) (cond (within 65 70 c) (Some (c - 55)) None))
 
 abbrev pub both : Option ℕ → Option ℕ → Option (ℕ × ℕ)
@@ -30,7 +30,7 @@ both (Some x) (Some y) = Some (x, y)
 abbrev pub byte_of : List ℕ → Option ℕ
 byte_of [] = None
 byte_of (a ∷ []) = None
-byte_of (a ∷ b ∷ []) = option_map (λ d. 16 * d.0 + d.1) (both (hex_digit_lem a) (hex_digit_lem b))
+byte_of (a ∷ b ∷ []) = option_map (λ d. 16 * d.0 + d.1) (both (hex_digit a) (hex_digit b))
 byte_of (a ∷ b ∷ c ∷ cs) = None
 
 -- `L` and a number up to 255, or `R` and a number that is counted from 256

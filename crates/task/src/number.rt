@@ -1,6 +1,6 @@
 // What a single word spells.
 ghost use Rattle.std.specs.Prelude.{◌≡◌, ◌<◌, IfSome};
-ghost use Rattle.task.specs.Words.{byte_of, hex_digit_lem, move_number, number_of};
+ghost use Rattle.task.specs.Words.{byte_of, hex_digit, move_number, number_of};
 
 const MOST_LEFT: u32 = 255;
 
@@ -29,7 +29,7 @@ pub(crate) fn number_of(word: &[u8], limit: u32) -> Option<u32>
 }
 
 fn hex_digit(digit: u8) -> Option<u8>
-    ensures value { result ≡ hex_digit_lem digit }
+    ensures value { result ≡ hex_digit digit }
     ensures bound { IfSome result (λ d. d < 16) }
 {
     match digit {

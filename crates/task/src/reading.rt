@@ -1,14 +1,14 @@
 // The whole text, line by line, into one content.
 ghost use Rattle.std.specs.Prelude.{◌≡◌};
 ghost use Rattle.task.specs.Held.{content_of};
-ghost use Rattle.task.specs.Spelled.{at_line_lem, spelled, told};
+ghost use Rattle.task.specs.Spelled.{at_line, spelled, told};
 
 use crate::content::Content;
 use crate::fault::{TextFault, Wrong};
 use crate::line::{read_listing, read_moves, read_pair};
 
 fn at_line<T>(line: u8, read: Result<T, Wrong>) -> Result<T, TextFault>
-    ensures { result ≡ at_line_lem line read }
+    ensures { result ≡ at_line line read }
 {
     match read {
         Ok(value) => Ok(value),

@@ -1,5 +1,5 @@
 ghost use Rattle.std.specs.Prelude.{◌≡◌};
-ghost use Rattle.readers.specs.Flow.{inside, goes_on_lem};
+ghost use Rattle.readers.specs.Flow.{inside, goes_on};
 
 // The highest byte that begins a command.
 pub const HIGHEST_BYTE: u8 = 0x05;
@@ -32,7 +32,7 @@ impl Command {
 
     // The command leads on to the next one.
     pub fn goes_on(self) -> bool
-        ensures { result ≡ goes_on_lem self }
+        ensures { result ≡ goes_on self }
     {
         match self {
             Command::Pass | Command::Take(_) | Command::Give(_) => true,

@@ -1,6 +1,6 @@
 // What reading means, apart from how it is done.
 ghost use Rattle.std.specs.Prelude.{◌≡◌};
-ghost use Rattle.readers.specs.contracts.listing.place.questions.ListingThreadGraph.TheImpl.{ghosts as listing-ghosts};
+ghost use Rattle.readers.specs.contracts.listing.place.questions.ListingThreadGraph.TheImpl.{ghosts as listing_ghosts};
 ghost use Rattle.readers.specs.Graph.{listing_graph};
 ghost use Rattle.readers.specs.Place.{commands_in};
 ghost use Rattle.readers.specs.Encoding.{ListingsAreTheirCommands};
@@ -24,7 +24,7 @@ pub fn refusals_have_their_reasons() -> u8
 
 // What a listing's place means as a thread graph is what its commands mean.
 pub fn listings_mean_their_commands() -> u8
-    ensures { (l : Listing) → listing-ghosts.meaning l ≡ listing_graph (commands_in l) }
+    ensures { (l : Listing) → listing_ghosts.meaning l ≡ listing_graph (commands_in l) }
 {
     0
 }
