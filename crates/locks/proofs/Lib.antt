@@ -4,6 +4,7 @@ pub mod Distances
 pub mod Existence
 pub mod HeldLaws
 pub mod Interleaving
+pub mod LastSteps
 pub mod LeastSum
 pub mod Nesting
 pub mod SetLaws
