@@ -6,6 +6,9 @@ ghost use Rattle.locks.specs.Graphs.{Graph, Bounded, locations, steps_at, step_a
 
 use locks::steps::Step;
 
+// How many locations a graph may have.
+pub const MOST_LOCATIONS: usize = 512;
+
 pub trait ThreadGraph {
     // what the graph means: its start, and the steps of each location
     ghost meaning: { Self → Graph };

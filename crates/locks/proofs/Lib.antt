@@ -8,6 +8,7 @@ pub mod LastSteps
 pub mod LeastSum
 pub mod Nesting
 pub mod SetLaws
+pub mod SetTexts
 pub mod Splitting
 pub mod Telling
 pub mod Tracking

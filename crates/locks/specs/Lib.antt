@@ -5,6 +5,7 @@ pub mod Graphs
 pub mod Held
 pub mod Limits
 pub mod Moves
+pub mod Printed
 pub mod Refusals
 pub mod Schedules
 pub mod Sets

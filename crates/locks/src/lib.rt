@@ -3,9 +3,11 @@
 #![tactic(auto)]
 
 pub mod alone;
+pub mod faults;
 pub mod held;
 pub mod moves;
 pub mod refusals;
+pub mod sameness;
 pub mod sets;
 pub mod states;
 pub mod steps;

@@ -1,11 +1,11 @@
 // What every refusal says.
-ghost use Rattle.std.specs.Prelude.{◌≡◌};
-ghost use Rattle.locks.specs.Refusals.{part_name};
+ghost use Rattle.std.specs.Prelude.{◌≡◌, Some};
+ghost use Rattle.locks.specs.Refusals.{part_name, refusal_text};
 
 use std::fmt;
 
 // Which part of the tool refuses.
-#[derive(Clone, Copy)]
+#[derive(Clone, Copy, Debug, PartialEq, Eq)]
 pub enum Part {
     Listing,
     Table,
@@ -34,8 +34,17 @@ impl Part {
     }
 }
 
-// The number of a refusal, where it arose, and the part that refuses.
-#[derive(Clone, Copy)]
+impl fmt::Display for Part {
+    ghost output = { λ part. Some (part_name part) };
+
+    fn fmt<W: fmt::Write>(&self, f: &mut fmt::Formatter<W>) -> fmt::Result {
+        f.write_str(self.name())
+    }
+}
+
+// The number of a refusal, where it arose, and the part that refuses. It is a number and no enum: each part has an
+// enum of its own faults, and all of them are told as this.
+#[derive(Clone, Copy, Debug, PartialEq, Eq)]
 pub struct Refusal {
     pub number: u8,
     pub place: usize,
@@ -43,10 +52,13 @@ pub struct Refusal {
 }
 
 impl fmt::Display for Refusal {
+    ghost output = { λ refusal. Some (refusal_text refusal) };
+
     fn fmt<W: fmt::Write>(&self, f: &mut fmt::Formatter<W>) -> fmt::Result {
-        let number = self.number;
-        let place = self.place;
-        let part = self.part.name();
-        write!(f, "refused {number} at {place} in {part}")
+        write!(
+            f,
+            "refused {} at {} in {}",
+            self.number, self.place, self.part
+        )
     }
 }
