@@ -1,4 +1,5 @@
 pub mod IndexLaws
+pub mod LookLaws
 pub mod MoveLaws
 pub mod OnwardLaws
 pub mod ReplayLaws

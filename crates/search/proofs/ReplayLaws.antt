@@ -1,6 +1,6 @@
 -- Runs of moves, and that a replay has one answer.
-use Rattle.std.proofs.Common.{◌≡◌, ℕ, suc, ◌+◌, ◌<◌, ◌≤◌, cond, ◌&&◌, eqb, ltb, List, [], ◌∷◌, ◌++◌, length, get_or, take, drop, Some, None, Ok, Err, Option, Result, sym, refl, ap, ◌∙◌, subst, ⊎_elim, append-nil, arith}
-use Rattle.std.proofs.lemmas.List.{take_more, take_all, length-take-le, take-append-drop, drop_more}
+use Rattle.std.proofs.Common.{◌≡◌, ℕ, suc, ◌+◌, ◌<◌, cond, ◌&&◌, eqb, ltb, List, [], ◌∷◌, ◌++◌, length, get_or, take, drop, Some, None, Ok, Err, Option, Result, sym, refl, ap, ◌∙◌, subst, ⊎_elim, append-nil, arith}
+use Rattle.std.proofs.lemmas.List.{take_more, length-take-le, take-append-drop, drop_more}
 use Rattle.std.proofs.lemmas.Option.{slice_get-get_or}
 use Rattle.std.proofs.lemmas.Bool.{eq-eqb, eqb-true, cases_Bool, lt-ltb, le-ltb, cond-true, cond-false, and_from, and_parts}
 use Rattle.std.specs.List.{slice_get}
@@ -17,7 +17,8 @@ use Rattle.search.specs.declared.playing.MoveFault.TheVariants.{NoStep, CannotBe
 use Rattle.search.specs.declared.replaying.ReplayFault.{ReplayFault}
 use Rattle.search.specs.declared.replaying.ReplayFault.TheVariants as fault
 use Rattle.search.specs.Playing.{NoSuchStep, BlockedStep, Made}
-use Rattle.search.specs.Replaying.{Stops, BothThere, fault_at, MovesSay, ReplaySays, Replayed}
+use Rattle.search.specs.Sides.{BothThere}
+use Rattle.search.specs.Replaying.{Stops, FailsAt, MovesSay, ReplaySays, Replayed}
 use Rattle.locks.proofs.Interleaving.{runs_more}
 use Rattle.locks.proofs.Basics.{some_none, some_some, nth_there}
 
@@ -27,20 +28,17 @@ pub run_goes_on : (G H : Graph) (c d e : Configuration) (ns : List ℕ) (i : ℕ
 run_goes_on G H c d e ns i h r m =
     subst (λ xs. Runs G H c xs e) (sym (take_more ns i 0 h)) (runs_more G H c d e (take i ns) (get_or ns i 0) r m)
 
-pub run_ends : (G H : Graph) (c d : Configuration) (ns : List ℕ) (i : ℕ) → length ns ≤ i → Runs G H c (take i ns) d → Runs G H c ns d
-run_ends G H c d ns i h r = subst (λ xs. Runs G H c xs d) (take_all i ns h) r
-
 stops : (G H : Graph) (ns : List ℕ) (i : ℕ) (d : Configuration) (Why : Configuration → ℕ → Type 0) → i < length ns → Runs G H (from_starts G H) (take i ns) d → Why d (get_or ns i 0) → Stops G H ns i Why
 stops G H ns i d Why h r w =
     record { here = d; before = r; n = get_or ns i 0; there = slice_get-get_or ns i 0 h; why = w }
 
 stops_by : (G H : Graph) (ns : List ℕ) (i : ℕ) (d : Configuration) (f : MoveFault) → i < length ns → Runs G H (from_starts G H) (take i ns) d → Made G H d (get_or ns i 0) (Err f)
-    → MovesSay G H ns (Err (fault_at f i))
+    → FailsAt G H ns i f
 stops_by G H ns i d NoStep h r m = stops G H ns i d (NoSuchStep G H) h r m
 stops_by G H ns i d CannotBeTaken h r m = stops G H ns i d (BlockedStep G H) h r m
 
 pub stops_there : (G H : Graph) (ns : List ℕ) (i : ℕ) (d : Configuration) (f : MoveFault) (s : ReplayFault) → i < length ns → Runs G H (from_starts G H) (take i ns) d → Made G H d (get_or ns i 0) (Err f)
-    → s ≡ fault_at f i → MovesSay G H ns (Err s)
+    → s ≡ fault.Fails f i → MovesSay G H ns (Err s)
 stops_there G H ns i d f s h r m e = subst (λ x. MovesSay G H ns (Err x)) (sym e) (stops_by G H ns i d f h r m)
 
 -- the answer as a function, so that there is only one
@@ -99,8 +97,7 @@ ended a b c i = cond (eqb c.left.location a && eqb c.right.location b) (Ok tt) (
 
 abbrev play_on : Result Configuration MoveFault → ℕ → (Configuration → Answer) → Answer
 play_on (Ok d) i go = go d
-play_on (Err NoStep) i go = Err (fault.NoStep i)
-play_on (Err CannotBeTaken) i go = Err (fault.CannotBeTaken i)
+play_on (Err f) i go = Err (fault.Fails f i)
 
 abbrev play : Graph → Graph → ℕ → ℕ → Configuration → ℕ → List ℕ → Answer
 play G H a b c i [] = ended a b c i
@@ -130,8 +127,7 @@ split_at ns i n e =
     ∙ ap (λ x. take i ns ++ x ∷ drop (i + 1) ns) (nth_is ns i n e)
 
 stop_same : (f : MoveFault) (j k : ℕ) (go : Configuration → Answer) → j ≡ k → play_on (Err f) j go ≡ play_on (Err f) k (λ d. Ok tt)
-stop_same NoStep j k go p = ap {B = Answer} (λ x. Err (fault.NoStep x)) p
-stop_same CannotBeTaken j k go p = ap {B = Answer} (λ x. Err (fault.CannotBeTaken x)) p
+stop_same f j k go p = ap {B = Answer} (λ x. Err (fault.Fails f x)) p
 
 -- the run up to a move that cannot be made
 play_stops : (G H : Graph) (a b : ℕ) (ns : List ℕ) (i : ℕ) (Why : Configuration → ℕ → Type 0) (f : MoveFault) → (s : Stops G H ns i Why)
@@ -142,7 +138,7 @@ play_stops G H a b ns i Why f s e =
     ap (λ xs. play G H a b (from_starts G H) 0 xs) (split_at ns i s.n s.there)
     ∙ play_runs G H a b (from_starts G H) s.here 0 (take i ns) (s.n ∷ drop (i + 1) ns) s.before
     ∙ ap (λ m. play_on m (0 + length (take i ns)) (λ x. play G H a b x (0 + length (take i ns) + 1) (drop (i + 1) ns))) e
-    ∙ stop_same f (0 + length (take i ns)) i _ j
+    ∙ stop_same f (0 + length (take i ns)) i (λ d. Ok tt) j
 
 replay_answer : Graph → Graph → ℕ → ℕ → List ℕ → Answer
 replay_answer G H a b ns =
@@ -175,9 +171,9 @@ says_answer G H a b ns (Err (fault.NoLocation Left)) h =
 says_answer G H a b ns (Err (fault.NoLocation Right)) h =
     sym (cond-true (ltb a (locations G)) _ (Err (fault.NoLocation Left)) (lt-ltb a (locations G) h.0)
     ∙ cond-false (ltb b (locations H)) _ (Err (fault.NoLocation Right)) (le-ltb b (locations H) h.1))
-says_answer G H a b ns (Err (fault.NoStep i)) h =
+says_answer G H a b ns (Err (fault.Fails NoStep i)) h =
     sym (both_answer G H a b ns h.0 ∙ play_stops G H a b ns i (NoSuchStep G H) NoStep h.1 (absent_is G H h.1.here h.1.n h.1.why))
-says_answer G H a b ns (Err (fault.CannotBeTaken i)) h =
+says_answer G H a b ns (Err (fault.Fails CannotBeTaken i)) h =
     sym (both_answer G H a b ns h.0 ∙ play_stops G H a b ns i (BlockedStep G H) CannotBeTaken h.1 (blocked_is G H h.1.here h.1.n h.1.why))
 says_answer G H a b ns (Err (fault.EndsElsewhere n)) h =
     ap {B = Answer} (λ m. Err (fault.EndsElsewhere m)) h.2

@@ -1,3 +1,4 @@
+pub mod Chains
 pub mod Faults
 pub mod Folders
 pub mod Index
@@ -6,6 +7,8 @@ pub mod Replaying
 pub mod Scanning
 pub mod Searching
 pub mod Shapes
+pub mod Sides
 pub mod Summaries
 pub mod Summarising
+pub mod Visits
 pub mod Weighing

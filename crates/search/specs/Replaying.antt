@@ -1,30 +1,25 @@
 -- What the replay of a schedule answers.
-use Rattle.std.specs.Prelude.{◌≡◌, ℕ, ◌<◌, ◌≤◌, List, length, take, Some, Ok, Err, Result, ◌≢◌}
+use Rattle.std.specs.Prelude.{◌≡◌, ℕ, List, length, take, Some, Ok, Err, Result, ◌≢◌}
 use Rattle.std.specs.List.{slice_get}
 use Rattle.locks.specs.declared.refusals.Part.TheVariants.{Replay}
 use Rattle.locks.specs.declared.refusals.Refusal.{Refusal}
 use Rattle.locks.specs.declared.together.Configuration.{Configuration}
-use Rattle.locks.specs.declared.together.Side.TheVariants.{Left, Right}
-use Rattle.locks.specs.Graphs.{Graph, locations}
+use Rattle.locks.specs.Graphs.{Graph}
 use Rattle.locks.specs.Schedules.{Runs, Replays, from_starts}
 use Rattle.search.specs.declared.playing.MoveFault.{MoveFault}
-use Rattle.search.specs.declared.playing.MoveFault.TheVariants as moves
+use Rattle.search.specs.declared.playing.MoveFault.TheVariants.{NoStep, CannotBeTaken}
 use Rattle.search.specs.declared.replaying.ReplayFault.{ReplayFault}
-use Rattle.search.specs.declared.replaying.ReplayFault.TheVariants.{NoLocation, NoStep, CannotBeTaken, EndsElsewhere}
+use Rattle.search.specs.declared.replaying.ReplayFault.TheVariants.{NoLocation, Fails, EndsElsewhere}
+use Rattle.locks.specs.Together.{side_number}
 use Rattle.search.specs.Playing.{NoSuchStep, BlockedStep}
+use Rattle.search.specs.Sides.{BothThere, Missing}
 
 -- the number, the place and the part of each refusal
 abbrev pub replay_refusal : ReplayFault → Refusal
-replay_refusal (NoLocation Left) = record { number = 17; place = 0; part = Replay }
-replay_refusal (NoLocation Right) = record { number = 17; place = 1; part = Replay }
-replay_refusal (NoStep i) = record { number = 19; place = i; part = Replay }
-replay_refusal (CannotBeTaken i) = record { number = 20; place = i; part = Replay }
+replay_refusal (NoLocation s) = record { number = 17; place = side_number s; part = Replay }
+replay_refusal (Fails NoStep i) = record { number = 19; place = i; part = Replay }
+replay_refusal (Fails CannotBeTaken i) = record { number = 20; place = i; part = Replay }
 replay_refusal (EndsElsewhere n) = record { number = 21; place = n; part = Replay }
-
--- a move that cannot be made, at its place in the schedule
-abbrev pub fault_at : MoveFault → ℕ → ReplayFault
-fault_at moves.NoStep i = NoStep i
-fault_at moves.CannotBeTaken i = CannotBeTaken i
 
 -- the moves before place i can be made from both starts, and then there is something about the move at i
 pub record Stops (G H : Graph) (ns : List ℕ) (i : ℕ) (Why : Configuration → ℕ → Type 0) : Type 0 where
@@ -40,24 +35,23 @@ pub record Elsewhere (G H : Graph) (a b : ℕ) (ns : List ℕ) : Type 0 where
   pub runs : Runs G H (from_starts G H) ns last
   pub other : last.left.location ≡ a → last.right.location ≢ b
 
+-- some move is the first that cannot be made, for this reason
+abbrev pub FailsAt : Graph → Graph → List ℕ → ℕ → MoveFault → Type 0
+FailsAt G H ns i NoStep = Stops G H ns i (NoSuchStep G H)
+FailsAt G H ns i CannotBeTaken = Stops G H ns i (BlockedStep G H)
+
 -- what each answer says of the moves, apart from the pair
 abbrev pub MovesSay : Graph → Graph → List ℕ → Result Configuration ReplayFault → Type 0
 MovesSay G H ns (Ok c) = Runs G H (from_starts G H) ns c
 MovesSay G H ns (Err (NoLocation s)) = ⊥
-MovesSay G H ns (Err (NoStep i)) = Stops G H ns i (NoSuchStep G H)
-MovesSay G H ns (Err (CannotBeTaken i)) = Stops G H ns i (BlockedStep G H)
+MovesSay G H ns (Err (Fails f i)) = FailsAt G H ns i f
 MovesSay G H ns (Err (EndsElsewhere n)) = ⊥
-
-abbrev pub BothThere : Graph → Graph → ℕ → ℕ → Type 0
-BothThere G H a b = (a < locations G) × (b < locations H)
 
 -- the condition of each answer
 abbrev pub ReplaySays : Graph → Graph → ℕ → ℕ → List ℕ → Result (Unit {0}) ReplayFault → Type 0
 ReplaySays G H a b ns (Ok _) = BothThere G H a b × Replays G H a b ns
-ReplaySays G H a b ns (Err (NoLocation Left)) = locations G ≤ a
-ReplaySays G H a b ns (Err (NoLocation Right)) = (a < locations G) × (locations H ≤ b)
-ReplaySays G H a b ns (Err (NoStep i)) = BothThere G H a b × Stops G H ns i (NoSuchStep G H)
-ReplaySays G H a b ns (Err (CannotBeTaken i)) = BothThere G H a b × Stops G H ns i (BlockedStep G H)
+ReplaySays G H a b ns (Err (NoLocation s)) = Missing G H a b s
+ReplaySays G H a b ns (Err (Fails f i)) = BothThere G H a b × FailsAt G H ns i f
 ReplaySays G H a b ns (Err (EndsElsewhere n)) = BothThere G H a b × Elsewhere G H a b ns × (n ≡ length ns)
 
 -- the answer is the one whose condition holds, and no other answer's condition does

@@ -6,4 +6,5 @@ pub mod faults;
 pub mod folders;
 pub mod playing;
 pub mod replaying;
+pub mod threads;
 pub mod weighing;

@@ -1,5 +1,0 @@
-use Rattle.search.proofs.ReplayLaws.{one_answer}
-use Rattle.search.proofs.replaying.replay.Goals as goal
-
-pub returns : goal.returns
-returns g c = one_answer _ _ _ _ _ _ c.answer.ensures
