@@ -5,8 +5,8 @@ ghost use Rattle.pairs.specs.Answers.{ask_refusal};
 use locks::refusals::{Part, Refusal};
 use locks::together::Side;
 
-// Whether both locations of a pair can be occupied at one time.
-#[derive(Clone, Copy)]
+// Whether both locations of a pair can be occupied at one time. It is no `Option`, whose `None` would not say never.
+#[derive(Clone, Copy, Debug, PartialEq, Eq)]
 pub enum Verdict {
     // No schedule leads there.
     Never,
@@ -15,7 +15,7 @@ pub enum Verdict {
 }
 
 // Why ask gives no verdict.
-#[derive(Clone, Copy)]
+#[derive(Clone, Copy, Debug, PartialEq, Eq)]
 pub enum AskFault {
     // This side's folder has no summary.
     NoSummary(Side),
@@ -25,15 +25,13 @@ pub enum AskFault {
     TooShort(usize),
 }
 
-impl AskFault {
-    pub fn refusal(self) -> Refusal
-        ensures { result ≡ ask_refusal self }
-    {
-        let (number, place) = match self {
-            AskFault::NoSummary(Side::Left) => (16, 0),
-            AskFault::NoSummary(Side::Right) => (16, 1),
-            AskFault::NoLocation(Side::Left) => (17, 0),
-            AskFault::NoLocation(Side::Right) => (17, 1),
+impl From<AskFault> for Refusal {
+    ghost from_gives = { λ fault refusal. refusal ≡ ask_refusal fault };
+
+    fn from(fault: AskFault) -> Refusal {
+        let (number, place) = match fault {
+            AskFault::NoSummary(side) => (16, usize::from(side)),
+            AskFault::NoLocation(side) => (17, usize::from(side)),
             AskFault::TooShort(length) => (18, length),
         };
         Refusal {
@@ -41,5 +39,13 @@ impl AskFault {
             place,
             part: Part::Ask,
         }
+    }
+}
+
+impl AskFault {
+    pub fn refusal(self) -> Refusal
+        ensures { result ≡ ask_refusal self }
+    {
+        Refusal::from(self)
     }
 }
