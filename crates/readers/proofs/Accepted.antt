@@ -14,9 +14,10 @@ use Rattle.readers.specs.Faults.{fault}
 use Rattle.readers.specs.Flow.{most, inside, goes_on, command_lock_known, end_at, flow, all_lead_inside, all_locks_known, stops_at_the_end, is_well_formed}
 use Rattle.readers.specs.Reading.{highest, go_on, broken, taken, run, or_flow, refusal}
 use Rattle.readers.proofs.Spelling.{Spelt, spelt}
+use Rattle.readers.proofs.Steps.{width_drop}
 
 pub not_refused : {X : Type 0} (e : ListingFault) → ◌≡◌ {A = Result (Unit {0}) ListingFault} (Err e) (Ok tt) → X
-not_refused e h = let z : ◌≡◌ {A = ℕ} 0 1 = cc in absurd (omega arith)
+not_refused e h = cc
 
 -- P of a run, from P of no command and of one more
 module _ (n at b : ℕ) (bs : List ℕ) (P : List Command → Type 0)
@@ -79,14 +80,6 @@ spelt_written bs (Either t u) a s =
     ∙ ap (λ x. 5 ∷ t / 256 ∷ t % 256 ∷ x ∷ s.4 ∷ s.0) a₃
     ∙ ap (λ x. 5 ∷ t / 256 ∷ t % 256 ∷ u / 256 ∷ x ∷ s.0) a₄
     ∙ ap (λ xs. 5 ∷ t / 256 ∷ t % 256 ∷ u / 256 ∷ u % 256 ∷ drop 5 xs) (sym s.5)
-
-pub width_drop : (c : Command) (b : ℕ) (bs : List ℕ) → drop (width c) (b ∷ bs) ≡ drop (pred (width c)) bs
-width_drop Stop b bs = refl
-width_drop Pass b bs = refl
-width_drop (Take k) b bs = refl
-width_drop (Give k) b bs = refl
-width_drop (Goto t) b bs = refl
-width_drop (Either t u) b bs = refl
 
 pub bytes_written : (s n at : ℕ) (bs : List ℕ) → AllByRecursion (λ b. b < 256) bs → broken s n at bs ≡ Ok tt → drop s bs ≡ encode (run s bs)
 bytes_written zero n at [] a h = refl

@@ -15,7 +15,7 @@ abbrev pub Fails : List ℕ → Result Command Wrong → Type 0
 Fails xs r = (w : Wrong) → r ≡ Err w → (n : ℕ) → n < most → WrongThere w n xs
 
 reads : (xs : List ℕ) (c : Command) → Fails xs (Ok c)
-reads xs c w e n small = let z : ◌≡◌ {A = ℕ} 0 1 = cc in absurd (omega arith)
+reads xs c w e n small = cc
 
 fails : (xs : List ℕ) (v : Wrong) → ((n : ℕ) → n < most → WrongThere v n xs) → Fails xs (Err v)
 fails xs v h w e n small = let same : v ≡ w = cc in subst (λ u. WrongThere u n xs) same (h n small)

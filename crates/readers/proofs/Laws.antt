@@ -1,6 +1,6 @@
 -- The law of listings: they are their commands, written one after another.
 use Rattle.std.specs.Prelude.{◌≡◌, ℕ, ◌+◌, ◌*◌, ◌/◌, ◌%◌, ◌<◌, ◌≤◌, Bool, true, false, cond, not, List, [], ◌∷◌, ◌++◌, length, drop, Ok, Err, Result, refl}
-use Rattle.std.proofs.Common.{ap, subst, ◌∙◌, arith}
+use Rattle.std.proofs.Common.{ap, subst, ◌∙◌, arith, length-append}
 use Rattle.std.specs.List.{AllByRecursion}
 use Rattle.std.proofs.lemmas.Bool.{cond-true, lt-ltb, and_parts}
 use Rattle.readers.specs.declared.listing.command.Command.{Command}
@@ -12,9 +12,10 @@ use Rattle.readers.specs.Encoding.{written, encode, LockIsKnown, WellFormed, Lis
 use Rattle.readers.specs.Faults.{fault}
 use Rattle.readers.specs.Flow.{most, inside, goes_on, end_at, flow, all_lead_inside, stops_at_the_end}
 use Rattle.readers.specs.Reading.{highest, given, broken, run, or_flow, refusal, listing}
-use Rattle.readers.proofs.Steps.{run_more, broken_more}
-use Rattle.readers.proofs.Turns.{refusal_some}
+use Rattle.readers.proofs.Steps.{width_some, run_more, broken_more}
+use Rattle.readers.proofs.Checks.{refusal_some}
 use Rattle.readers.proofs.Accepted.{not_broken, bytes_written, accepted_sound}
+use Rattle.readers.proofs.Sizes.{width_written}
 use Rattle.readers.specs.FormLaws.{all_inside, stopped, well_formed}
 
 -- a written command is read
@@ -58,7 +59,7 @@ ends_so : (at : ℕ) (c : Command) → not (goes_on c) ≡ true → end_at at c 
 ends_so at c = go (goes_on c)
   where
     go : (b : Bool) → not b ≡ true → ◌≡◌ {A = Result (Unit {0}) ListingFault} (cond b (Err (fault RunsOffTheEnd at)) (Ok tt)) (Ok tt)
-    go true h = let y : ◌≡◌ {A = ℕ} 0 1 = cc in absurd (omega arith)
+    go true h = cc
     go false h = refl
 
 flow_so : (n : ℕ) (end : Result (Unit {0}) ListingFault) (at : ℕ) (c : Command) (cs : List Command) → all_lead_inside n (c ∷ cs) ≡ true → stops_at_the_end (c ∷ cs) ≡ true → flow n end at (c ∷ cs) ≡ Ok tt
@@ -73,12 +74,11 @@ flow_all n (c ∷ cs) h k = flow_so n (Ok tt) 0 c cs h k
 
 some_bytes : (cs : List Command) → 0 < length cs → 0 < length (encode cs)
 some_bytes [] h = absurd (omega arith)
-some_bytes (Stop ∷ cs) h = omega arith
-some_bytes (Pass ∷ cs) h = omega arith
-some_bytes (Take k ∷ cs) h = omega arith
-some_bytes (Give k ∷ cs) h = omega arith
-some_bytes (Goto t ∷ cs) h = omega arith
-some_bytes (Either t u ∷ cs) h = omega arith
+some_bytes (c ∷ cs) h =
+    let wide = width_some c in
+    let long = width_written c in
+    let sum = length-append (written c) (encode cs) in
+    omega arith
 
 -- of written commands only where they lead is left to ask
 pub refusal_encode : (cs : List Command) → 0 < length cs → length cs ≤ most → AllByRecursion LockIsKnown cs → refusal (encode cs) ≡ flow (length cs) (Ok tt) 0 cs
@@ -88,7 +88,7 @@ refusal_encode cs some few known =
     ∙ ap (λ l. flow (length l) (Ok tt) 0 l) (run_encode cs known)
 
 has_some : (cs : List Command) → stops_at_the_end cs ≡ true → 0 < length cs
-has_some [] h = let y : ◌≡◌ {A = ℕ} 0 1 = cc in absurd (omega arith)
+has_some [] h = cc
 has_some (c ∷ cs) h = omega arith
 
 pub encoded_read : (cs : List Command) → WellFormed cs → listing (encode cs) ≡ Ok cs
@@ -102,7 +102,7 @@ encoded_read cs w =
 
 given_is : {X : Type 0} (r : Result (Unit {0}) ListingFault) (x y : X) → given r x ≡ Ok y → (r ≡ Ok tt) × (x ≡ y)
 given_is (Ok u) x y h = (refl, cc)
-given_is (Err e) x y h = let z : ◌≡◌ {A = ℕ} 0 1 = cc in absurd (omega arith)
+given_is (Err e) x y h = cc
 
 pub read_encoded : (bs : List ℕ) (cs : List Command) → AllByRecursion (λ b. b < 256) bs → listing bs ≡ Ok cs → (bs ≡ encode cs) × WellFormed cs
 read_encoded bs cs a h =

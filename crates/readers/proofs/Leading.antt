@@ -55,10 +55,7 @@ led_more RunsOffTheEnd n at c cs place fine h =
     (c ∷ h.0, h.1, ap (λ l. c ∷ l) h.2, further c h.0 at place h.3, (fine, h.4), h.5)
 
 no_end : (c : Command) → goes_on c ≡ true → MayEnd c → ⊥
-no_end c h m = let e = ends_there c m in let f : not (goes_on c) ≡ false = ap not h in let z : ◌≡◌ {A = ℕ} 0 1 = clash in omega arith
-  where
-    clash : ◌≡◌ {A = ℕ} 0 1
-    clash = let e = ends_there c m in let f : not (goes_on c) ≡ false = ap not h in cc
+no_end c h m = let e = ends_there c m in let f : not (goes_on c) ≡ false = ap not h in cc
 
 led_end : (n at : ℕ) (c : Command) (f : ListingFault) → LeadsInside n c → end_at at c ≡ Err f → Led f.wrong n at (c ∷ []) f.at
 led_end n at c f fine = go (goes_on c) refl
@@ -67,7 +64,7 @@ led_end n at c f fine = go (goes_on c) refl
     go true e h =
         subst (λ g. Led g.wrong n at (c ∷ []) g.at) (same_fault _ f h)
         ([], c, refl, omega arith, (fine, tt), no_end c e)
-    go false e h = let z : ◌≡◌ {A = ℕ} 0 1 = cc in absurd (omega arith)
+    go false e h = cc
 
 led_out : (n at : ℕ) (c : Command) (cs : List Command) (f : ListingFault) → inside n c ≡ false → ◌≡◌ {A = Result (Unit {0}) ListingFault} (Err (fault MissingTarget at)) (Err f) → Led f.wrong n at (c ∷ cs) f.at
 led_out n at c cs f out h =

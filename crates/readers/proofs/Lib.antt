@@ -1,5 +1,7 @@
 pub mod Accepted
+pub mod Checks
 pub mod Failing
+pub mod Items
 pub mod Laws
 pub mod Leading
 pub mod Meaning
@@ -8,4 +10,3 @@ pub mod Sizes
 pub mod Spelling
 pub mod Steps
 pub mod Stuck
-pub mod Turns

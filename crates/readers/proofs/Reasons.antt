@@ -13,7 +13,7 @@ use Rattle.readers.specs.Flow.{most, flow}
 use Rattle.readers.specs.Reading.{highest, given, broken, run, or_flow, refusal, listing}
 use Rattle.readers.specs.Refusals.{operands, WrongBytes, WholeRun, Refused, RefusalsHaveTheirReasons}
 use Rattle.readers.proofs.Steps.{broken_more, broken_many, broken_wrong}
-use Rattle.readers.proofs.Turns.{refusal_some}
+use Rattle.readers.proofs.Checks.{refusal_some}
 use Rattle.readers.proofs.Accepted.{few, some_command, bytes_written, locks_known}
 use Rattle.readers.specs.FormLaws.{all_locks}
 use Rattle.readers.proofs.Laws.{first_written, drop_written, refusal_encode}
@@ -22,7 +22,7 @@ use Rattle.readers.proofs.Sizes.{width_written, same_fault}
 use Rattle.readers.proofs.Stuck.{stuck, stuck_refused}
 
 given_fault : {X : Type 0} (r : Result (Unit {0}) ListingFault) (x : X) (f : ListingFault) → given r x ≡ Err f → r ≡ Err f
-given_fault (Ok u) x f h = let z : ◌≡◌ {A = ℕ} 0 1 = cc in absurd (omega arith)
+given_fault (Ok u) x f h = cc
 given_fault (Err e) x f h = ap Err (same_fault e f h)
 
 told_some : (b : ℕ) (bs : List ℕ) (f : ListingFault) → AllByRecursion (λ x. x < 256) (b ∷ bs) → (r : Result (Unit {0}) ListingFault) → broken 0 0 0 (b ∷ bs) ≡ r → or_flow r (run 0 (b ∷ bs)) ≡ Err f → Refused f.wrong (b ∷ bs) f.at
@@ -83,6 +83,12 @@ behind w bs place i room some stops =
     ∙ ap (λ p. broken 0 (0 + length i.before) p i.rest) there
     ∙ stops (0 + length i.before) count)
 
+-- where the first command of the rest cannot be taken off
+behind_first : (w : Wrong) (bs : List ℕ) (place : ℕ) {n : ℕ} → (i : WrongBytes w bs place) → length i.before < most → length i.rest ≡ suc n → first highest i.rest ≡ Err w → refusal bs ≡ Err (fault w place)
+behind_first w bs place i few long e =
+    let some : 0 < length i.rest = omega arith in
+    behind w bs place i (omega arith) some (λ n same. broken_wrong n place i.rest w some (omega arith) e)
+
 six : (P : ℕ → Type 0) → P 0 → P 1 → P 2 → P 3 → P 4 → P 5 → (b : ℕ) → b ≤ highest → P b
 six P a₀ a₁ a₂ a₃ a₄ a₅ zero h = a₀
 six P a₀ a₁ a₂ a₃ a₄ a₅ (suc zero) h = a₁
@@ -129,25 +135,13 @@ only_so TooManyCommands bs place i =
     behind TooManyCommands bs place i (omega arith) x.1 (λ n e. broken_many n place i.rest x.1 (omega arith))
 only_so UnknownCommand bs place i =
     let x = i.wrong in
-    let small = x.0 in
-    let long = ap length x.1.2 in
-    let some : 0 < length i.rest = omega arith in
-    behind UnknownCommand bs place i (omega arith) some
-    (λ n e. broken_wrong n place i.rest UnknownCommand some (omega arith) (ap (first highest) x.1.2 ∙ cond-true _ _ _ (lt-ltb highest x.1.0 x.1.3)))
+    behind_first UnknownCommand bs place i x.0 (ap length x.1.2) (ap (first highest) x.1.2 ∙ cond-true _ _ _ (lt-ltb highest x.1.0 x.1.3))
 only_so CutOff bs place i =
     let x = i.wrong in
-    let small = x.0 in
-    let long = ap length x.1.2 in
-    let some : 0 < length i.rest = omega arith in
-    behind CutOff bs place i (omega arith) some
-    (λ n e. broken_wrong n place i.rest CutOff some (omega arith) (ap (first highest) x.1.2 ∙ cut x.1.0 x.1.3 x.1.1 x.1.4))
+    behind_first CutOff bs place i x.0 (ap length x.1.2) (ap (first highest) x.1.2 ∙ cut x.1.0 x.1.3 x.1.1 x.1.4)
 only_so UnknownLock bs place i =
     let x = i.wrong in
-    let small = x.0 in
-    let long = ap length x.1.3 in
-    let some : 0 < length i.rest = omega arith in
-    behind UnknownLock bs place i (omega arith) some
-    (λ n e. broken_wrong n place i.rest UnknownLock some (omega arith) (ap (first highest) x.1.3 ∙ bad_lock x.1.0 x.1.1 x.1.2 x.1.4 x.1.5))
+    behind_first UnknownLock bs place i x.0 (ap length x.1.3) (ap (first highest) x.1.3 ∙ bad_lock x.1.0 x.1.1 x.1.2 x.1.4 x.1.5)
 only_so MissingTarget bs place h =
     let cs = h.0 in
     let o = h.2 in

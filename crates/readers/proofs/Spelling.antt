@@ -23,20 +23,15 @@ abbrev Reads : List ℕ → Result Command Wrong → Type 0
 Reads bs r = (c : Command) → r ≡ Ok c → Spelt bs c
 
 refused : (bs : List ℕ) (w : Wrong) → Reads bs (Err w)
-refused bs w c e = let z : ◌≡◌ {A = ℕ} 0 1 = cc in absurd (omega arith)
+refused bs w c e = cc
 
 read : (bs : List ℕ) (d : Command) → Spelt bs d → Reads bs (Ok d)
 read bs d s c e = let same : d ≡ c = cc in subst (Spelt bs) same s
 
-take_lock : (b : ℕ) (bs : List ℕ) → b ≡ 2 → Reads (b ∷ bs) (with_lock Take bs)
-take_lock b [] t = refused (b ∷ []) CutOff
-take_lock b (k ∷ bs) t =
-    cond_both (nat_lt k locks) _ _ (Reads (b ∷ k ∷ bs)) (λ y. read _ (Take k) (bs, ap (λ x. x ∷ k ∷ bs) t, ltb-true k locks y)) (λ _. refused _ UnknownLock)
-
-give_lock : (b : ℕ) (bs : List ℕ) → b ≡ 3 → Reads (b ∷ bs) (with_lock Give bs)
-give_lock b [] t = refused (b ∷ []) CutOff
-give_lock b (k ∷ bs) t =
-    cond_both (nat_lt k locks) _ _ (Reads (b ∷ k ∷ bs)) (λ y. read _ (Give k) (bs, ap (λ x. x ∷ k ∷ bs) t, ltb-true k locks y)) (λ _. refused _ UnknownLock)
+lock_after : (make : ℕ → Command) (b : ℕ) (bs : List ℕ) → ((k : ℕ) (rest : List ℕ) → k < locks → Spelt (b ∷ k ∷ rest) (make k)) → Reads (b ∷ bs) (with_lock make bs)
+lock_after make b [] is = refused _ CutOff
+lock_after make b (k ∷ bs) is =
+    cond_both (nat_lt k locks) _ _ (Reads (b ∷ k ∷ bs)) (λ y. read _ (make k) (is k bs (ltb-true k locks y))) (λ _. refused _ UnknownLock)
 
 goto_target : (b : ℕ) (bs : List ℕ) → b ≡ 4 → Reads (b ∷ bs) (with_target bs)
 goto_target b [] t = refused _ CutOff
@@ -55,8 +50,8 @@ kinds : (b : ℕ) (bs : List ℕ) → Reads (b ∷ bs) (by_kind b bs)
 kinds b bs =
     cond_both (b == 0) _ _ P (λ y. read _ Stop (bs, ap (λ x. x ∷ bs) (eqb-true b 0 y))) (λ _.
     cond_both (b == 1) _ _ P (λ y. read _ Pass (bs, ap (λ x. x ∷ bs) (eqb-true b 1 y))) (λ _.
-    cond_both (b == 2) _ _ P (λ y. take_lock b bs (eqb-true b 2 y)) (λ _.
-    cond_both (b == 3) _ _ P (λ y. give_lock b bs (eqb-true b 3 y)) (λ _.
+    cond_both (b == 2) _ _ P (λ y. lock_after Take b bs (λ k rest h. (rest, ap (λ x. x ∷ k ∷ rest) (eqb-true b 2 y), h))) (λ _.
+    cond_both (b == 3) _ _ P (λ y. lock_after Give b bs (λ k rest h. (rest, ap (λ x. x ∷ k ∷ rest) (eqb-true b 3 y), h))) (λ _.
     cond_both (b == 4) _ _ P (λ y. goto_target b bs (eqb-true b 4 y)) (λ _.
     cond_both (b == 5) _ _ P (λ y. either_targets b bs (eqb-true b 5 y)) (λ _. refused _ UnknownCommand))))))
   where

@@ -34,21 +34,17 @@ broken_skip (suc s) n at (b ∷ bs) =
     let e : suc at + s ≡ at + suc s = omega arith in
     broken_skip s n (suc at) bs ∙ ap (λ a. broken 0 n a (drop s bs)) e
 
-drop_width : (c : Command) (b : ℕ) (bs : List ℕ) → drop (pred (width c)) bs ≡ drop (width c) (b ∷ bs)
-drop_width c b bs = sym (ap (λ w. drop w (b ∷ bs)) (width_some c))
+pub width_drop : (c : Command) (b : ℕ) (bs : List ℕ) → drop (width c) (b ∷ bs) ≡ drop (pred (width c)) bs
+width_drop c b bs = ap (λ w. drop w (b ∷ bs)) (width_some c)
 
 pub run_more : (bs : List ℕ) (c : Command) → first highest bs ≡ Ok c → run 0 bs ≡ c ∷ run 0 (drop (width c) bs)
-run_more [] c e = let z : ◌≡◌ {A = ℕ} 0 1 = cc in absurd (omega arith)
+run_more [] c e = cc
 run_more (b ∷ bs) c e =
     ap (λ r. taken r (λ d. run (pred (width d)) bs)) e
-    ∙ ap (λ cs. c ∷ cs) (run_skip (pred (width c)) bs ∙ ap (run 0) (drop_width c b bs))
-
-pub run_end : (bs : List ℕ) (w : Wrong) → first highest bs ≡ Err w → run 0 bs ≡ []
-run_end [] w e = refl
-run_end (b ∷ bs) w e = ap (λ r. taken r (λ d. run (pred (width d)) bs)) e
+    ∙ ap (λ cs. c ∷ cs) (run_skip (pred (width c)) bs ∙ ap (run 0) (sym (width_drop c b bs)))
 
 pub broken_more : (n at : ℕ) (bs : List ℕ) (c : Command) → n < most → first highest bs ≡ Ok c → broken 0 n at bs ≡ broken 0 (n + 1) (at + width c) (drop (width c) bs)
-broken_more n at [] c small e = let z : ◌≡◌ {A = ℕ} 0 1 = cc in absurd (omega arith)
+broken_more n at [] c small e = cc
 broken_more n at (b ∷ bs) c small e =
     let wide = width_some c in
     let there : suc at + pred (width c) ≡ at + width c = omega arith in
@@ -56,7 +52,7 @@ broken_more n at (b ∷ bs) c small e =
     ∙ ap (λ r. go_on r at (λ d. broken (pred (width d)) (suc n) (suc at) bs)) e
     ∙ broken_skip (pred (width c)) (suc n) (suc at) bs
     ∙ ap (λ a. broken 0 (suc n) a (drop (pred (width c)) bs)) there
-    ∙ ap (broken 0 (suc n) (at + width c)) (drop_width c b bs)
+    ∙ ap (broken 0 (suc n) (at + width c)) (sym (width_drop c b bs))
     ∙ ap (λ m. broken 0 m (at + width c) (drop (width c) (b ∷ bs))) (sym (add-one n))
 
 pub broken_many : (n at : ℕ) (bs : List ℕ) → 0 < length bs → most ≤ n → broken 0 n at bs ≡ Err (fault TooManyCommands at)

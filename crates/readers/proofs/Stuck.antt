@@ -13,8 +13,8 @@ use Rattle.readers.specs.Flow.{most}
 use Rattle.readers.specs.Reading.{highest, go_on, broken}
 use Rattle.readers.specs.Refusals.{WrongThere, WrongBytes, Refused}
 use Rattle.readers.proofs.Spelling.{spelt}
-use Rattle.readers.proofs.Steps.{width_some}
-use Rattle.readers.proofs.Accepted.{lock_known, spelt_written, width_drop}
+use Rattle.readers.proofs.Steps.{width_some, width_drop}
+use Rattle.readers.proofs.Accepted.{lock_known, spelt_written}
 use Rattle.readers.specs.FormLaws.{knows_lock}
 use Rattle.readers.proofs.Failing.{first_fails}
 use Rattle.readers.proofs.Sizes.{width_written, same_fault}
@@ -65,7 +65,7 @@ by_wrong n at b bs f P more stop room =
     go (Err w) e small h = stop w (first_fails b bs w e n small) (same_fault _ f h)
 
 pub stuck : (s n at : ℕ) (bs : List ℕ) (f : ListingFault) → n ≤ most → AllByRecursion (λ x. x < 256) bs → broken s n at bs ≡ Err f → Stuck f.wrong (drop s bs) n (at + s) f.at
-stuck s n at [] f room small h = let z : ◌≡◌ {A = ℕ} 0 1 = cc in absurd (omega arith)
+stuck s n at [] f room small h = cc
 stuck zero n at (b ∷ bs) f room small h =
     by_wrong n at b bs f (Stuck f.wrong (b ∷ bs) n (at + 0) f.at)
     (λ c e low k. stuck_more b bs n at f c small e (stuck (pred (width c)) (suc n) (suc at) bs f low small.1 k))

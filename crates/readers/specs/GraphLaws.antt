@@ -1,5 +1,5 @@
 -- The graph of a well-formed run of commands keeps the bounds, and its questions are answered command by command.
-use Rattle.std.specs.Prelude.{◌≡◌, ℕ, zero, suc, ◌+◌, ◌<◌, ◌≤◌, ◌⊎◌, List, [], ◌∷◌, length, get_or, Some, None, nat_lt, slice_index_or, refl}
+use Rattle.std.specs.Prelude.{◌≡◌, ℕ, zero, suc, ◌+◌, ◌<◌, ◌≤◌, ◌⊎◌, List, [], ◌∷◌, length, get_or, Option, Some, None, MatchOption, nat_lt, slice_index_or, refl}
 use Rattle.std.proofs.Common.{zero-add, arith, inl, inr, ⊎_elim, sym, ap, subst, ◌∙◌}
 use Rattle.std.proofs.ByRecursion.{All-get_or}
 use Rattle.std.proofs.lemmas.List.{get_or_past, get_or_push, length_push}
@@ -14,7 +14,6 @@ use Rattle.readers.specs.declared.listing.command.Command.TheVariants.{Stop, Pas
 use Rattle.readers.specs.Encoding.{WellFormed, LockIsKnown, LeadsInside, MayEnd}
 use Rattle.readers.specs.Graph.{plain_to, steps_of, steps_from, listing_graph}
 use Rattle.readers.specs.Place.{command_at}
-use Rattle.locks.proofs.Basics.{zero_one}
 
 pub length_steps : (n : ℕ) (cs : List Command) → length (steps_from n cs) ≡ length cs
 length_steps n [] = refl
@@ -39,13 +38,13 @@ command_there cs n c e =
     ⊎_elim
     (λ t. let q = cond-true (nat_lt n (length cs)) (Some (slice_index_or cs n Stop)) None t in
     (ltb-true n (length cs) t, (let same : c ≡ get_or cs n Stop = cc in same)))
-    (λ f. let q = cond-false (nat_lt n (length cs)) (Some (slice_index_or cs n Stop)) None f in let z : ◌≡◌ {A = ℕ} 0 1 = cc in zero_one z)
+    (λ f. let q = cond-false (nat_lt n (length cs)) (Some (slice_index_or cs n Stop)) None f in cc)
     (cases_Bool (nat_lt n (length cs)))
 
 pub command_missing : (cs : List Command) (n : ℕ) → None ≡ command_at cs n → length cs ≤ n
 command_missing cs n e =
     ⊎_elim
-    (λ t. let q = cond-true (nat_lt n (length cs)) (Some (slice_index_or cs n Stop)) None t in let z : ◌≡◌ {A = ℕ} 0 1 = cc in zero_one z)
+    (λ t. let q = cond-true (nat_lt n (length cs)) (Some (slice_index_or cs n Stop)) None t in cc)
     (λ f. ltb-false n (length cs) f)
     (cases_Bool (nat_lt n (length cs)))
 
@@ -58,6 +57,11 @@ found_steps cs n c e =
 
 pub missing_steps : (cs : List Command) (n : ℕ) → None ≡ command_at cs n → [] ≡ steps_at (listing_graph cs) n
 missing_steps cs n e = sym (steps_outside n cs (command_missing cs n e))
+
+-- how many steps there are at a location, from the command that is looked up there
+pub counted_steps : (cs : List Command) (n r : ℕ) (o : Option Command) → o ≡ command_at cs n → MatchOption o (r ≡ 0) (λ c. (m : ℕ) → r ≡ length (steps_of m c)) → r ≡ length (steps_at (listing_graph cs) n)
+counted_steps cs n r (Some c) e h = h n ∙ ap length (found_steps cs n c e)
+counted_steps cs n r None e h = h ∙ ap length (missing_steps cs n e)
 
 -- the bounds
 
@@ -83,7 +87,7 @@ leads_on cs w i h no_end =
 
 only : (s t : Step) (n : ℕ) → slice_get (s ∷ []) n ≡ Some t → s ≡ t
 only s t zero e = cc
-only s t (suc n) e = let z : ◌≡◌ {A = ℕ} 0 1 = cc in zero_one z
+only s t (suc n) e = cc
 
 either : (s u t : Step) (n : ℕ) → slice_get (s ∷ u ∷ []) n ≡ Some t → (s ≡ t) ⊎ (u ≡ t)
 either s u t zero e = inl (let r : s ≡ t = cc in r)
@@ -93,13 +97,13 @@ plain_fits : (G : Graph) (t : ℕ) → t < locations G → StepFits G (plain_to 
 plain_fits G t h = record { target_there = h; lock_there = omega arith; plain_without = λ _. refl }
 
 take_fits : (G : Graph) (k t : ℕ) → k < lock_limit → t < locations G → StepFits G (record { kind = kind.Take; lock = k; target = t })
-take_fits G k t l h = record { target_there = h; lock_there = l; plain_without = λ e. let z : ◌≡◌ {A = ℕ} 0 1 = cc in zero_one z }
+take_fits G k t l h = record { target_there = h; lock_there = l; plain_without = λ e. cc }
 
 give_fits : (G : Graph) (k t : ℕ) → k < lock_limit → t < locations G → StepFits G (record { kind = kind.Give; lock = k; target = t })
-give_fits G k t l h = record { target_there = h; lock_there = l; plain_without = λ e. let z : ◌≡◌ {A = ℕ} 0 1 = cc in zero_one z }
+give_fits G k t l h = record { target_there = h; lock_there = l; plain_without = λ e. cc }
 
 command_fits : (G : Graph) (i m : ℕ) (c : Command) (n : ℕ) (s : Step) → locations G ≡ m → LockIsKnown c → LeadsInside m c → ((MayEnd c → ⊥) → i + 1 < m) → slice_get (steps_of i c) n ≡ Some s → StepFits G s
-command_fits G i m Stop n s l k t o e = let z : ◌≡◌ {A = ℕ} 0 1 = cc in zero_one z
+command_fits G i m Stop n s l k t o e = cc
 command_fits G i m Pass n s l k t o e = subst (StepFits G) (only _ s n e) (plain_fits G (i + 1) (let h = o (λ x. x) in omega arith))
 command_fits G i m (Take j) n s l k t o e = subst (StepFits G) (only _ s n e) (take_fits G j (i + 1) k (let h = o (λ x. x) in omega arith))
 command_fits G i m (Give j) n s l k t o e = subst (StepFits G) (only _ s n e) (give_fits G j (i + 1) k (let h = o (λ x. x) in omega arith))
@@ -123,7 +127,7 @@ fits_at cs w l n s e =
     (λ h. command_fits (listing_graph cs) l (length cs) (slice_index_or cs l Stop) n s (length_steps 0 cs)
     (All-get_or LockIsKnown cs l Stop h w.locks_known) (All-get_or (LeadsInside (length cs)) cs l Stop h w.leads_inside) (leads_on cs w l h)
     (ap (λ xs. slice_get xs n) (sym (steps_here l cs Stop h)) ∙ e))
-    (λ h. let q = ap (λ xs. slice_get xs n) (sym (steps_outside l cs h)) ∙ e in let z : ◌≡◌ {A = ℕ} 0 1 = cc in zero_one z)
+    (λ h. let q = ap (λ xs. slice_get xs n) (sym (steps_outside l cs h)) ∙ e in cc)
     (cases_lt l (length cs))
 
 pub listing_bounded : (cs : List Command) → WellFormed cs → Bounded (listing_graph cs)

@@ -5,6 +5,7 @@ pub mod Flow
 pub mod FormLaws
 pub mod Graph
 pub mod GraphLaws
+pub mod Items
 pub mod Place
 pub mod Reading
 pub mod Refusals

@@ -1,5 +1,6 @@
 // A command listing: a run of commands, each a byte and operands of fixed width. Command n, from 0, is location n.
 mod command;
+mod commands;
 mod fault;
 mod laws;
 mod passes;

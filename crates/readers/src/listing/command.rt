@@ -1,11 +1,10 @@
 ghost use Rattle.std.specs.Prelude.{◌≡◌};
 ghost use Rattle.readers.specs.Flow.{inside, goes_on};
 
-// The highest byte that begins a command.
-pub const HIGHEST_BYTE: u8 = 0x05;
+use graph::MOST_LOCATIONS;
 
 // A listing has at most so many commands.
-pub const MOST_COMMANDS: usize = 512;
+pub const MOST_COMMANDS: usize = MOST_LOCATIONS;
 
 #[derive(Clone, Copy, Debug, PartialEq, Eq)]
 pub enum Command {

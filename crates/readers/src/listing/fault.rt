@@ -1,5 +1,5 @@
 ghost use Rattle.std.specs.Prelude.{◌≡◌};
-ghost use Rattle.readers.specs.Faults.{listing_refusal};
+ghost use Rattle.readers.specs.Faults.{fault, number, listing_refusal};
 
 use locks::refusals::{Part, Refusal};
 
@@ -22,11 +22,18 @@ pub struct ListingFault {
     pub at: usize,
 }
 
-impl ListingFault {
-    pub fn refusal(self) -> Refusal
-        ensures { result ≡ listing_refusal self }
+impl Wrong {
+    // This fault, of the command at an offset.
+    pub(crate) fn at(self, at: usize) -> ListingFault
+        ensures { result ≡ fault self at }
     {
-        let number = match self.wrong {
+        ListingFault { wrong: self, at }
+    }
+
+    fn number(self) -> u8
+        ensures { result ≡ number self }
+    {
+        match self {
             Wrong::NoBytes => 1,
             Wrong::UnknownCommand => 2,
             Wrong::CutOff => 3,
@@ -34,11 +41,26 @@ impl ListingFault {
             Wrong::UnknownLock => 5,
             Wrong::MissingTarget => 6,
             Wrong::RunsOffTheEnd => 7,
-        };
+        }
+    }
+}
+
+impl From<ListingFault> for Refusal {
+    ghost from_gives = { λ fault refusal. refusal ≡ listing_refusal fault };
+
+    fn from(fault: ListingFault) -> Refusal {
         Refusal {
-            number,
-            place: self.at,
+            number: fault.wrong.number(),
+            place: fault.at,
             part: Part::Listing,
         }
+    }
+}
+
+impl ListingFault {
+    pub fn refusal(self) -> Refusal
+        ensures { result ≡ listing_refusal self }
+    {
+        Refusal::from(self)
     }
 }

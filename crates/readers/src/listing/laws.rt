@@ -9,22 +9,16 @@ ghost use Rattle.readers.specs.Refusals.{RefusalsHaveTheirReasons};
 use crate::listing::Listing;
 
 // Bytes are read exactly where they are a well-formed run of commands, written one after another, and then as that run.
-pub fn listings_are_their_commands() -> u8
+pub fn listings_are_their_commands()
     ensures { ListingsAreTheirCommands }
-{
-    0
-}
+{}
 
 // Each refusal has its reason, at its place, and where a reason holds there is that refusal.
-pub fn refusals_have_their_reasons() -> u8
+pub fn refusals_have_their_reasons()
     ensures { RefusalsHaveTheirReasons }
-{
-    0
-}
+{}
 
 // What a listing's place means as a thread graph is what its commands mean.
-pub fn listings_mean_their_commands() -> u8
+pub fn listings_mean_their_commands()
     ensures { (l : Listing) → listing_ghosts.meaning l ≡ listing_graph (commands_in l) }
-{
-    0
-}
+{}

@@ -3,26 +3,21 @@ ghost use Rattle.std.specs.Prelude.{◌≡◌, ◌≤◌, length, Ok, vec_capaci
 ghost use Rattle.readers.specs.Flow.{end_at, flow};
 ghost use Rattle.readers.specs.Reading.{given, broken, run, refusal};
 
-use crate::listing::command::{HIGHEST_BYTE, MOST_COMMANDS};
-use crate::listing::scan::next_command;
+use crate::listing::command::MOST_COMMANDS;
+use crate::listing::commands::Commands;
 use crate::listing::{Command, ListingFault, Wrong};
 
 // The number of commands, where the bytes are a run of them.
 fn count_commands(bytes: &[u8]) -> Result<usize, ListingFault>
     ensures { result ≡ given (broken 0 0 0 bytes.now) (length (run 0 bytes.now)) }
 {
-    let mut rest = bytes;
+    // Counted by hand, since the limit is asked before a command is looked into.
     let mut count = 0;
-    while !rest.is_empty() {
-        let at = bytes.len() - rest.len();
-        if count == MOST_COMMANDS {
-            let wrong = Wrong::TooManyCommands;
-            return Err(ListingFault { wrong, at });
+    for (at, command) in Commands::new(bytes) {
+        if count >= MOST_COMMANDS {
+            return Err(Wrong::TooManyCommands.at(at));
         }
-        match next_command(rest, HIGHEST_BYTE) {
-            Ok((_, after)) => rest = after,
-            Err(wrong) => return Err(ListingFault { wrong, at }),
-        }
+        command?;
         count += 1;
     }
     Ok(count)
@@ -33,8 +28,7 @@ fn end_at(command: Command, at: usize) -> Result<(), ListingFault>
     ensures { result ≡ end_at at command }
 {
     if command.goes_on() {
-        let wrong = Wrong::RunsOffTheEnd;
-        return Err(ListingFault { wrong, at });
+        return Err(Wrong::RunsOffTheEnd.at(at));
     }
     Ok(())
 }
@@ -43,16 +37,13 @@ fn end_at(command: Command, at: usize) -> Result<(), ListingFault>
 fn check_flow(bytes: &[u8], count: usize) -> Result<(), ListingFault>
     ensures { result ≡ flow count (Ok tt) 0 (run 0 bytes.now) }
 {
-    let mut rest = bytes;
     let mut end = Ok(());
-    while let Ok((command, after)) = next_command(rest, HIGHEST_BYTE) {
-        let at = bytes.len() - rest.len();
+    for (at, command) in Commands::new(bytes) {
+        let Ok(command) = command else { break };
         if !command.leads_inside(count) {
-            let wrong = Wrong::MissingTarget;
-            return Err(ListingFault { wrong, at });
+            return Err(Wrong::MissingTarget.at(at));
         }
         end = end_at(command, at);
-        rest = after;
     }
     end
 }
@@ -61,8 +52,7 @@ pub(crate) fn check(bytes: &[u8]) -> Result<(), ListingFault>
     ensures { result ≡ refusal bytes.now }
 {
     if bytes.is_empty() {
-        let wrong = Wrong::NoBytes;
-        return Err(ListingFault { wrong, at: 0 });
+        return Err(Wrong::NoBytes.at(0));
     }
     let count = count_commands(bytes)?;
     check_flow(bytes, count)
@@ -75,9 +65,8 @@ pub(crate) fn fill(commands: &mut Vec<Command>, bytes: &[u8])
     ensures capacity { vec_capacity commands.new ≡ vec_capacity commands.old }
 {
     commands.clear();
-    let mut rest = bytes;
-    while let Ok((command, after)) = next_command(rest, HIGHEST_BYTE) {
+    for (_, command) in Commands::new(bytes) {
+        let Ok(command) = command else { break };
         commands.push_reserved(command);
-        rest = after;
     }
 }

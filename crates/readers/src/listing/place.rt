@@ -7,6 +7,7 @@ ghost use Rattle.readers.specs.Flow.{most, is_well_formed};
 
 use crate::listing::Command;
 
+// It has no `impl Model`: seen as a list of commands alone, it would not have `sound`, by which its graph is within the bounds.
 #[derive(Drop)]
 pub struct Listing {
     commands: Vec<Command>,

@@ -3,13 +3,8 @@ use std::test::Fail;
 
 // The number and the place of a refusal, or nothing where the bytes were read.
 fn refusal(answer: Result<(), ListingFault>) -> Option<(u8, usize)> {
-    match answer {
-        Ok(()) => None,
-        Err(fault) => {
-            let refusal = fault.refusal();
-            Some((refusal.number, refusal.place))
-        }
-    }
+    let refusal = answer.err()?.refusal();
+    Some((refusal.number, refusal.place))
 }
 
 #[test]

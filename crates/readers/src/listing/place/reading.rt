@@ -34,11 +34,7 @@ impl Listing {
     pub fn command(&self, n: usize) -> Option<Command>
         ensures { result ≡ command_at (commands_in self.now) n }
     {
-        if n < self.len() {
-            Some(self.commands[n])
-        } else {
-            None
-        }
+        self.commands.get(n).copied()
     }
 
     pub fn len(&self) -> usize

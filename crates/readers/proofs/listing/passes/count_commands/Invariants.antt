@@ -1,9 +1,8 @@
-use Rattle.std.proofs.Common.{length}
-use Rattle.readers.proofs.Turns.{Counted}
+use Rattle.std.proofs.Common.{◌≡◌, length}
+use Rattle.readers.specs.Reading.{given, broken, run}
+use Rattle.readers.specs.Items.{items_left}
+use Rattle.readers.proofs.Items.{counted}
 use Rattle.readers.proofs.listing.passes.count_commands.Given as goal
 
-abbrev pub invariant-loop-rest : goal.invariant-loop-rest
-invariant-loop-rest l = Counted l.bytes l.rest l.count
-
-abbrev pub decreases-loop-rest : goal.decreases-loop-rest
-decreases-loop-rest l = length l.rest
+abbrev pub invariant-loop-at : goal.invariant-loop-at
+invariant-loop-at l = given (broken 0 0 0 l.bytes) (length (run 0 l.bytes)) ≡ counted l.count (items_left l.at-iterator)
