@@ -82,7 +82,7 @@ module _ (closed : Bool) (t : TaskValue) (proper : Proper t) where
       let right = line_back (codes "right") bytes _ _ _ t.right right-plain (first_line_lem (codes "right") _ pair_text right-plain) (bytes_back t.right proper.right_bytes proper.right_room) in
       let pair = line_back (codes "pair") pair_of _ _ _ (t.left_location, t.right_location) pair_plain (first_line_lem (codes "pair") _ move_text pair_plain) (pair_back t.left_location t.right_location proper.left_location proper.right_location) in
       let moves = line_back (codes "moves") move_numbers_of _ _ [] t.moves move_plain move_line (moves_back t.moves proper.move_numbers proper.move_room) in
-      all_lines (written closed t) (t.left, lines right_text) (ap (at_line 1) left) (t.right, lines pair_text) (ap (at_line 2) right) ((t.left_location, t.right_location), lines move_text) (ap (at_line 3) pair) (t.moves, []) (ap (at_line 4) moves)
+      all_lines (written closed t) (lines (written closed t)) refl (t.left, lines right_text) (ap (at_line 1) left) (t.right, lines pair_text) (ap (at_line 2) right) ((t.left_location, t.right_location), lines move_text) (ap (at_line 3) pair) (t.moves, []) (ap (at_line 4) moves) refl
 
 pub written_reads_back : WrittenReadsBack
 written_reads_back closed t proper = reads_back closed t proper

@@ -1,4 +1,3 @@
-pub mod Cutting
 pub mod Digits
 pub mod Lines
 pub mod Stages

@@ -1,13 +1,15 @@
 -- Pieces that lack the byte between them are found again.
-use Rattle.std.proofs.Common.{◌≡◌, ℕ, Bool, true, false, not, ◌&&◌, eqb, List, [], ◌∷◌, ◌++◌, refl, ap, ◌∙◌, append-nil, arith}
+use Rattle.std.proofs.Common.{◌≡◌, ◌≢◌, ℕ, ◌<◌, Bool, length, Some, None, Option, sym, unwrap_or, MatchOption, All, Bor, true, false, not, ◌&&◌, eqb, List, [], ◌∷◌, ◌++◌, refl, ap, ◌∙◌, append-nil, arith}
 use Rattle.std.proofs.ByRecursion.{All-append}
 use Rattle.std.proofs.lemmas.Bool.{and_parts, eqb-false, not-true, eq-eqb, ne_eqb, cond-true, cond-false}
+use Rattle.std.proofs.lemmas.List.Elements.{recursion_from_All}
 use Rattle.std.specs.List.{AllByRecursion}
+use Rattle.task.specs.Left.{words_of}
 use Rattle.task.specs.Pieces.{onto, cuts, lines, words}
 use Rattle.task.specs.Written.{spaced, line_text, ending}
 
 abbrev pub Lacks : ℕ → List ℕ → Type 0
-Lacks at bs = AllByRecursion (λ b. b ≡ at → ⊥) bs
+Lacks at bs = AllByRecursion (λ b. b ≢ at) bs
 
 abbrev pub absent : ℕ → List ℕ → Bool
 absent at [] = true
@@ -35,6 +37,16 @@ words_spaced w (v ∷ vs) h hs = cuts_piece 32 ([] ∷ []) w (v ++ spaced vs) h 
 lines_alone : (b : ℕ) (w : List ℕ) → Lacks 10 (b ∷ w) → lines (b ∷ w) ≡ (b ∷ w) ∷ []
 lines_alone b [] h = cond-false _ _ _ (ne_eqb b 10 h.0)
 lines_alone b (c ∷ w) h = cond-false _ _ _ (ne_eqb b 10 h.0) ∙ ap (onto b) (lines_alone c w h.1)
+
+-- what a text gives first, cut before its first space or LF
+pub words_first : (text word : List ℕ) (rest : Option (Bor (List ℕ))) → All (λ b. b ≢ 32) word → MatchOption rest (text ≡ word) (λ r. text ≡ word ++ 32 ∷ r.now) → words text ≡ word ∷ words_of rest
+words_first text word None lacks whole = ap words whole ∙ words_alone word (recursion_from_All _ word lacks)
+words_first text word (Some rest) lacks whole = ap words whole ∙ cuts_piece 32 ([] ∷ []) word rest.now (recursion_from_All _ word lacks)
+
+pub lines_first : (text line : List ℕ) (rest : Option (Bor (List ℕ))) (none : Bor (List ℕ)) → none.now ≡ [] → 0 < length text → All (λ b. b ≢ 10) line → MatchOption rest (text ≡ line) (λ r. text ≡ line ++ 10 ∷ r.now) → lines text ≡ line ∷ lines (unwrap_or rest none).now
+lines_first text [] None none empty some lacks whole = absurd (omega (arith, ap length whole))
+lines_first text (b ∷ line) None none empty some lacks whole = ap lines whole ∙ lines_alone b line (recursion_from_All _ (b ∷ line) lacks) ∙ ap (λ l. (b ∷ line) ∷ lines l) (sym empty)
+lines_first text line (Some rest) none empty some lacks whole = ap lines whole ∙ cuts_piece 10 [] line rest.now (recursion_from_All _ line lacks)
 
 pub lines_last : (closed : Bool) (b : ℕ) (w : List ℕ) → Lacks 10 (b ∷ w) → lines ((b ∷ w) ++ ending closed) ≡ (b ∷ w) ∷ []
 lines_last true b w h = cuts_piece 10 [] (b ∷ w) [] h

@@ -13,18 +13,12 @@ use Rattle.task.specs.Spelled.{TaskValue, told, and_then, or_wrong, each, bytes,
 use Rattle.task.specs.Words.{value_from, number_of, hex_digit, both, byte_of, move_number}
 use Rattle.task.specs.Written.{Proper, ReadIsProper}
 
-none_some : {X : Type 0} (x : X) → ◌≡◌ {A = Option X} None (Some x) → ⊥
-none_some x h = let z : ◌≡◌ {A = ℕ} 0 1 = cc in omega arith
-
-err_ok : {X E : Type 0} (e : E) (x : X) → ◌≡◌ {A = Result X E} (Err e) (Ok x) → ⊥
-err_ok e x h = let z : ◌≡◌ {A = ℕ} 0 1 = cc in omega arith
-
 -- what an answer has, it has below the limit
 abbrev Under : ℕ → Option ℕ → Type 0
 Under limit o = (x : ℕ) → o ≡ Some x → x < limit
 
 under_none : (limit : ℕ) → Under limit None
-under_none limit x h = absurd (none_some x h)
+under_none limit x h = cc
 
 under_some : (limit v : ℕ) → v < limit → Under limit (Some v)
 under_some limit v h x e = let same : v ≡ x = cc in omega arith
@@ -72,14 +66,14 @@ module _ (spells : List ℕ → Option ℕ) (wrong : Wrong) (limit : ℕ) (under
   Fine out = AllByRecursion (λ x. x < limit) out × (length out ≤ 4096)
 
   one_more : (o : Option ℕ) (got : List ℕ) (out : List ℕ) (next : ℕ → Result (List ℕ) Wrong) → Under limit o → Fine got → ((x : ℕ) → Fine (got ++ x ∷ []) → next x ≡ Ok out → Fine out) → or_wrong o wrong (λ x. cond (ltb (length got) 4096) (next x) (Err TooMany)) ≡ Ok out → Fine out
-  one_more None got out next u fine on h = absurd (err_ok wrong out h)
+  one_more None got out next u fine on h = cc
   one_more (Some x) got out next u fine on h =
       ⊎_elim
       (λ room.
       let less = ltb-true (length got) 4096 room in
       let longer = length-append got (x ∷ []) in
       on x (All-push (λ y. y < limit) got x fine.0 (u x refl), omega arith) (sym (cond-true _ (next x) (Err TooMany) room) ∙ h))
-      (λ full. absurd (err_ok TooMany out (sym (cond-false _ (next x) (Err TooMany) full) ∙ h)))
+      (λ full. cc (sym (cond-false _ (next x) (Err TooMany) full) ∙ h))
       (cases_Bool (ltb (length got) 4096))
 
   each_fine : (got : List ℕ) (ws : List (List ℕ)) (out : List ℕ) → Fine got → each spells wrong got ws ≡ Ok out → Fine out
@@ -88,31 +82,31 @@ module _ (spells : List ℕ → Option ℕ) (wrong : Wrong) (limit : ℕ) (under
       one_more (spells w) got out (λ x. each spells wrong (got ++ x ∷ []) ws) (under w) fine (λ x. each_fine (got ++ x ∷ []) ws out) h
 
 pair_fine : (ws : List (List ℕ)) (p : ℕ × ℕ) → pair_of ws ≡ Ok p → (p.0 < 2 ^ 32) × (p.1 < 2 ^ 32)
-pair_fine [] p h = absurd (err_ok Number p h)
-pair_fine (a ∷ []) p h = absurd (err_ok Number p h)
+pair_fine [] p h = cc
+pair_fine (a ∷ []) p h = cc
 pair_fine (a ∷ b ∷ []) p h =
     go (number_of 4294967295 a) (number_of 4294967295 b) (number_under 4294967295 (2 ^ 32) (omega arith) a) (number_under 4294967295 (2 ^ 32) (omega arith) b) h
   where
     go : (x y : Option ℕ) → Under (2 ^ 32) x → Under (2 ^ 32) y → ok_or (both x y) Number ≡ Ok p → (p.0 < 2 ^ 32) × (p.1 < 2 ^ 32)
-    go None y ux uy e = absurd (err_ok Number p e)
-    go (Some x) None ux uy e = absurd (err_ok Number p e)
+    go None y ux uy e = cc
+    go (Some x) None ux uy e = cc
     go (Some x) (Some y) ux uy e =
         let same : ◌≡◌ {A = ℕ × ℕ} (x, y) p = cc in
         subst (λ q. (q.0 < 2 ^ 32) × (q.1 < 2 ^ 32)) same (ux x refl, uy y refl)
-pair_fine (a ∷ b ∷ c ∷ ws) p h = absurd (err_ok Number p h)
+pair_fine (a ∷ b ∷ c ∷ ws) p h = cc
 
 -- from the whole answer to its parts
 then_ok : {A B E : Type 0} (r : Result A E) (next : A → Result B E) (y : B) → and_then r next ≡ Ok y → (x : A) × (r ≡ Ok x) × (next x ≡ Ok y)
 then_ok (Ok x) next y h = (x, refl, h)
-then_ok (Err e) next y h = absurd (err_ok e y h)
+then_ok (Err e) next y h = cc
 
 told_ok : {A B E : Type 0} (view : A → B) (r : Result A E) (y : B) → told view r ≡ Ok y → (x : A) × (r ≡ Ok x) × (view x ≡ y)
 told_ok view (Ok x) y h = (x, refl, (cc))
-told_ok view (Err e) y h = absurd (err_ok e y h)
+told_ok view (Err e) y h = cc
 
 at_ok : {X : Type 0} (n : ℕ) (r : Result X Wrong) (x : X) → at_line n r ≡ Ok x → r ≡ Ok x
 at_ok n (Ok y) x h = let same : y ≡ x = cc in ap Ok same
-at_ok n (Err w) x h = absurd (err_ok _ x h)
+at_ok n (Err w) x h = cc
 
 line_ok : {X : Type 0} (n : ℕ) (keyword : List ℕ) (spells : List (List ℕ) → Result X Wrong) (ls : List (List ℕ)) (p : X × List (List ℕ)) → at_line n (line_of keyword spells ls) ≡ Ok p → (ws : List (List ℕ)) × (spells ws ≡ Ok p.0)
 line_ok n keyword spells ls p h =
@@ -122,7 +116,7 @@ line_ok n keyword spells ls p h =
 
 ended_ok : (ls : List (List ℕ)) (s t : TaskValue) → ended ls s ≡ Ok t → s ≡ t
 ended_ok [] s t h = cc
-ended_ok (l ∷ ls) s t h = absurd (err_ok _ t h)
+ended_ok (l ∷ ls) s t h = cc
 
 bytes_fine : (ws : List (List ℕ)) (out : List ℕ) → bytes ws ≡ Ok out → AllByRecursion (λ b. b < 256) out × (length out ≤ 4096)
 bytes_fine ws out h = each_fine byte_of Byte 256 byte_under [] ws out (tt, omega arith) h
@@ -158,7 +152,8 @@ read_is_proper text t h =
     let right-fine = bytes_fine right-line.0 right.0.0 right-line.1 in
     let numbers = pair_fine pair_line.0 pair.0.0 pair_line.1 in
     let move-fine = moves_fine move_line.0 moves.0.0 move_line.1 in
-    subst Proper (ended_ok moves.0.1 _ t moves.2) (record {
+    let task : TaskValue = record { left = left.0.0; right = right.0.0; left_location = pair.0.0.0; right_location = pair.0.0.1; moves = moves.0.0 } in
+    subst Proper {x = task} (ended_ok moves.0.1 task t moves.2) (record {
       left_bytes = left-fine.0;
       left_room = left-fine.1;
       right_bytes = right-fine.0;

@@ -1,18 +1,17 @@
 -- A byte, a number and a move that are written are read back.
-use Rattle.std.proofs.Common.{◌≡◌, ℕ, ◌+◌, ◌-◌, ◌/◌, ◌%◌, ◌^◌, ◌<◌, ◌≤◌, true, ltb, leb, List, [], ◌∷◌, ◌++◌, map, length, Some, Ok, decimal, Option, sym, refl, ap, ◌∙◌, append_assoc, append-nil, mod-lt, div-lt_iff_lt-mul, arith, lit<, length-append, rules}
+use Rattle.std.proofs.Common.{◌≡◌, ℕ, ◌+◌, ◌-◌, ◌/◌, ◌%◌, ◌^◌, ◌<◌, ◌≤◌, true, ltb, leb, List, [], ◌∷◌, ◌++◌, map, length, Some, Ok, decimal, Option, sym, refl, ap, ◌∙◌, append_assoc, append-nil, mod-lt, div-lt_iff_lt-mul, arith, lit<, length-append}
 use native.Mathlib.Nat.{div-add-mod}
 use Rattle.std.proofs.lemmas.Fmt.{decimal_nonempty, digits_decimal, digits_value-decimal}
-use Rattle.std.proofs.lemmas.Str.Parse.{IsNumeralModel, numerals_by_fold}
 use Rattle.std.proofs.lemmas.Bool.{and_parts, leb-true, cond_both, ltb-true, ltb-false}
 use Rattle.std.proofs.lemmas.Bool.Decides.{nat_tests}
-use Rattle.std.specs.Option.{option_map}
+use Rattle.std.specs.Option.{ok_or, option_map}
 use Rattle.std.specs.List.{AllByRecursion}
 use Rattle.std.specs.Str.{all_ascii_digits}
 use Rattle.task.specs.declared.fault.Wrong.{Wrong}
 use Rattle.task.specs.Spelled.{each}
-use Rattle.task.specs.Words.{value_from, number_of, hex_digit, byte_of, move_number}
+use Rattle.task.specs.Words.{number_of, hex_digit, byte_of, move_number}
 use Rattle.task.specs.Written.{hex_letter, byte_word, move_word}
-use Rattle.task.proofs.Digits.{number_is}
+use Rattle.task.proofs.Digits.{number_is, own}
 use Rattle.task.proofs.Lines.{each_more}
 use Rattle.task.proofs.Pieced.{Lacks}
 
@@ -36,9 +35,6 @@ pub byte_lacks : (at : ℕ) → at < 48 → (b : ℕ) → Lacks at (byte_word b)
 byte_lacks at low b = (λ e. omega (arith, letter_high (b / 16)), (λ e. omega (arith, letter_high (b % 16)), tt))
 
 -- numbers
-own : IsNumeralModel (λ ds. all_ascii_digits ds ≡ true) (value_from 0)
-own = numerals_by_fold _ (search rules) value_from (search rules)
-
 pub number_back : (limit n : ℕ) → n ≤ limit → n < 2 ^ 64 → number_of limit (decimal n) ≡ Some n
 number_back limit n h fits =
     let value = digits_value-decimal own n fits in
@@ -74,6 +70,6 @@ pub each_back : (spells : List ℕ → Option ℕ) (wrong : Wrong) (write : ℕ 
 each_back spells wrong write got [] h room = ap Ok (sym (append-nil got))
 each_back spells wrong write got (x ∷ xs) h room =
     let longer = length-append got (x ∷ []) in
-    each_more spells wrong got (map write (x ∷ xs)) (write x) (map write xs) refl x (sym h.0) (omega arith)
+    each_more spells wrong got (map write (x ∷ xs)) (write x) (map write xs) refl x (ap (λ o. ok_or o wrong) (sym h.0)) (omega arith)
     ∙ each_back spells wrong write (got ++ x ∷ []) xs h.1 (omega arith)
     ∙ ap Ok (append_assoc got (x ∷ []) xs)

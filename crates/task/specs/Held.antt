@@ -1,5 +1,5 @@
 -- What a place holds.
-use Rattle.std.specs.Prelude.{[], Ok, Err, vec_items, Result}
+use Rattle.std.specs.Prelude.{[], Ok, Err, Result}
 use Rattle.task.specs.declared.content.Content.{Content}
 use Rattle.task.specs.declared.fault.TextFault.{TextFault}
 use Rattle.task.specs.Spelled.{TaskValue}
@@ -7,11 +7,11 @@ use Rattle.task.specs.Spelled.{TaskValue}
 abbrev pub content_of : Content → TaskValue
 content_of c =
     record {
-      left = vec_items c.left;
-      right = vec_items c.right;
+      left = c.left;
+      right = c.right;
       left_location = c.left_location;
       right_location = c.right_location;
-      moves = vec_items c.moves;
+      moves = c.moves;
     }
 
 abbrev pub empty : TaskValue

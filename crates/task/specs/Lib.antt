@@ -1,5 +1,6 @@
 pub mod Faults
 pub mod Held
+pub mod Left
 pub mod Pieces
 pub mod Places
 pub mod Room

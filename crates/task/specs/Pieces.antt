@@ -1,5 +1,5 @@
 -- How a text falls into lines, and a line into words.
-use Rattle.std.specs.Prelude.{ℕ, suc, cond, List, [], ◌∷◌, ◌==◌}
+use Rattle.std.specs.Prelude.{ℕ, cond, List, [], ◌∷◌, ◌==◌}
 
 -- b stands in front of the first piece
 abbrev pub onto : ℕ → List (List ℕ) → List (List ℕ)
@@ -18,13 +18,3 @@ lines text = cuts 10 [] text
 -- words stand between single spaces, so two spaces have an empty word between them
 abbrev pub words : List ℕ → List (List ℕ)
 words line = cuts 32 ([] ∷ []) line
-
--- the words of what follows a word: nothing, or a space and further words
-abbrev pub items_of : List ℕ → List (List ℕ)
-items_of [] = []
-items_of (space ∷ bs) = words bs
-
--- how many bytes stand before the first `at`
-abbrev pub before : ℕ → List ℕ → ℕ
-before at [] = 0
-before at (b ∷ bs) = cond (b == at) 0 (suc (before at bs))

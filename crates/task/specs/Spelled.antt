@@ -1,5 +1,7 @@
 -- What task a text spells, or its first fault.
-use Rattle.std.specs.Prelude.{ℕ, cond, List, [], ◌∷◌, ◌++◌, length, Some, None, Ok, Err, codes, Option, Result, nat_lt}
+use Rattle.std.specs.Prelude.{◌≡◌, ℕ, cond, List, [], ◌∷◌, ◌++◌, length, Some, None, Ok, Err, codes, Option, Result, nat_lt}
+use Rattle.std.specs.Borrow.{Bor}
+use Rattle.std.specs.Fn.{FnReturnsAt, Shared}
 use Rattle.std.specs.Option.{ok_or}
 use Rattle.std.specs.Str.{bytes_eq}
 use Rattle.task.specs.declared.fault.TextFault.{TextFault}
@@ -24,15 +26,19 @@ abbrev pub and_then : {A B E : Type 0} → Result A E → (A → Result B E) →
 and_then (Ok x) next = next x
 and_then (Err e) next = Err e
 
-abbrev pub or_wrong : Option ℕ → Wrong → (ℕ → Result (List ℕ) Wrong) → Result (List ℕ) Wrong
+abbrev pub or_wrong : {A B : Type 0} → Option A → Wrong → (A → Result B Wrong) → Result B Wrong
 or_wrong None wrong next = Err wrong
 or_wrong (Some x) wrong next = next x
 
 -- what each word spells, after those that are in `got`, at most 4096 in all
-abbrev pub each : (List ℕ → Option ℕ) → Wrong → List ℕ → List (List ℕ) → Result (List ℕ) Wrong
+abbrev pub each : {X : Type 0} → (List ℕ → Option X) → Wrong → List X → List (List ℕ) → Result (List X) Wrong
 each spells wrong got [] = Ok got
 each spells wrong got (w ∷ ws) =
     or_wrong (spells w) wrong (λ x. cond (nat_lt (length got) 4096) (each spells wrong (got ++ x ∷ []) ws) (Err TooMany))
+
+-- each call of f at a word answers what it spells, or else that fault
+abbrev pub Computes : {F X : Type 0} → Shared F (Bor (List ℕ) × Unit {0}) (Result X Wrong) → F → (List ℕ → Option X) → Wrong → Type 0
+Computes g f spells wrong = (word : List ℕ) (answer : Result _ Wrong) → FnReturnsAt g f word answer → answer ≡ ok_or (spells word) wrong
 
 abbrev pub bytes : List (List ℕ) → Result (List ℕ) Wrong
 bytes ws = each byte_of Byte [] ws

@@ -1,15 +1,29 @@
-// The lists and numbers of one task, in memory that is reserved once.
-ghost use Rattle.task.specs.Room.{Reserved};
+// The lists and numbers of one task.
+ghost use Rattle.std.specs.Prelude.{◌≡◌, IfOk};
+ghost use Rattle.task.specs.Held.{content_of, empty};
 
-// The most bytes of a listing, and the most moves.
-pub(crate) const ROOM: usize = 4096;
+use crate::items::Items;
+use std::alloc::{AllocError, Global};
 
 #[derive(Drop)]
 pub(crate) struct Content {
-    pub(crate) left: Vec<u8>,
-    pub(crate) right: Vec<u8>,
+    pub(crate) left: Items<u8>,
+    pub(crate) right: Items<u8>,
     pub(crate) left_location: u32,
     pub(crate) right_location: u32,
-    pub(crate) moves: Vec<u16>,
-    ghost room: { Reserved left × Reserved right × Reserved moves },
+    pub(crate) moves: Items<u16>,
+}
+
+impl Content {
+    pub(crate) fn new(heap: Global) -> Result<Content, AllocError>
+        ensures { IfOk result (λ c. content_of c ≡ empty) }
+    {
+        Ok(Content {
+            left: Items::new(heap)?,
+            right: Items::new(heap)?,
+            left_location: 0,
+            right_location: 0,
+            moves: Items::new(heap)?,
+        })
+    }
 }

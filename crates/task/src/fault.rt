@@ -1,6 +1,9 @@
 // What can be wrong with the text of a task, and where.
-ghost use Rattle.std.specs.Prelude.{◌≡◌};
-ghost use Rattle.task.specs.Faults.{phrase};
+ghost use Rattle.std.specs.Prelude.{◌≡◌, Some};
+ghost use Rattle.task.specs.Faults.{fault_text, phrase};
+
+use std::error::Error;
+use std::fmt;
 
 #[derive(Clone, Copy, PartialEq, Eq, Debug)]
 pub enum Wrong {
@@ -41,4 +44,31 @@ impl Wrong {
             Wrong::Surplus => "there is text after the fourth line",
         }
     }
+
+    pub(crate) fn at(self, line: u8) -> TextFault
+        ensures { result ≡ record { line = line; wrong = self } }
+    {
+        TextFault { line, wrong: self }
+    }
 }
+
+impl fmt::Display for Wrong {
+    ghost output = { λ wrong. Some (phrase wrong) };
+
+    fn fmt<W: fmt::Write>(&self, f: &mut fmt::Formatter<W>) -> fmt::Result {
+        f.write_str(self.what())
+    }
+}
+
+impl Error for Wrong {}
+
+impl fmt::Display for TextFault {
+    ghost output = { λ fault. Some (fault_text fault) };
+
+    fn fmt<W: fmt::Write>(&self, f: &mut fmt::Formatter<W>) -> fmt::Result {
+        let TextFault { line, wrong } = self;
+        write!(f, "line {line}: {wrong}")
+    }
+}
+
+impl Error for TextFault {}

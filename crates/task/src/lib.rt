@@ -12,6 +12,7 @@
 
 mod content;
 mod fault;
+mod items;
 mod laws;
 mod line;
 mod number;

@@ -1,121 +1,72 @@
 // A line of the text: its keyword, then its items.
-ghost use Rattle.std.specs.Prelude.{◌≡◌};
-ghost use Rattle.task.specs.Pieces.{items_of, lines};
-ghost use Rattle.task.specs.Room.{Reserved};
-ghost use Rattle.task.specs.Spelled.{bytes, line_of, move_numbers_of, opened, pair_of, told};
+ghost use Rattle.std.specs.Prelude.{◌≡◌, ℕ, List, [], Option};
+ghost use Rattle.std.specs.Option.{ok_or};
+ghost use Rattle.task.specs.Left.{lines_left, words_left};
+ghost use Rattle.task.specs.Spelled.{Computes, each, line_of, opened, pair_of, told};
 
-use crate::content::ROOM;
 use crate::fault::Wrong;
-use crate::number::{byte_of, move_of, number_of};
-use crate::pieces::{first_line, first_word, next_item};
+use crate::items::Items;
+use crate::number::number_of;
+use crate::pieces::{Lines, Words};
 
-// What follows the keyword on the first line, and the text below that line.
-fn open_line<'t>(keyword: &[u8], text: &'t [u8]) -> Result<(&'t [u8], &'t [u8]), Wrong>
-    ensures { told (λ x. (items_of x.0.now, lines x.1.now)) result ≡ opened keyword.now (lines text.now) }
+// The words after the keyword of the next line.
+fn open_line<'t>(keyword: &[u8], lines: &mut Lines<'t>) -> Result<Words<'t>, Wrong>
+    ensures { told (λ words. (words_left words, lines_left lines.new)) result
+        ≡ opened keyword.now (lines_left lines.old) }
 {
-    let Some((line, below)) = first_line(text) else {
-        return Err(Wrong::Missing);
-    };
-    let (word, items) = first_word(line);
-    if word == keyword {
-        Ok((items, below))
-    } else {
-        Err(Wrong::Keyword)
+    let line = lines.next().ok_or(Wrong::Missing)?;
+    let mut words = Words::new(line);
+    match words.next() {
+        Some(word) if word == keyword => Ok(words),
+        _ => Err(Wrong::Keyword),
     }
 }
 
-fn fill_bytes(items: &[u8], list: &mut Vec<u8>) -> Result<(), Wrong>
-    requires { Reserved list.old }
-    ensures value { told (λ _. list.new.items) result ≡ bytes (items_of items.now) }
-    ensures room { Reserved list.new }
+// Takes what `item_of` makes of each word, in place of what `items` held.
+fn take_items<T: Drop, F: Fn(&[u8]) -> Result<T, Wrong>>(
+    words: Words,
+    item_of: F,
+    items: &mut Items<T>,
+) -> Result<(), Wrong>
+    requires { F.IsAlwaysCallable item_of }
+    ensures { (meaning : List ℕ → Option T) (wrong : Wrong) → Computes F.Fn item_of meaning wrong
+        → told (λ _. items.new) result ≡ each meaning wrong [] (words_left words.entry) }
 {
-    list.clear();
-    let mut rest = items;
-    while let Some((word, after)) = next_item(rest) {
-        let Some(byte) = byte_of(word) else {
-            return Err(Wrong::Byte);
-        };
-        if list.len() >= ROOM {
-            return Err(Wrong::TooMany);
-        }
-        list.push_reserved(byte);
-        rest = after;
+    items.clear();
+    for word in words {
+        items.push(item_of(word)?)?;
     }
     Ok(())
 }
 
-fn fill_moves(items: &[u8], list: &mut Vec<u16>) -> Result<(), Wrong>
-    requires { Reserved list.old }
-    ensures value { told (λ _. list.new.items) result ≡ move_numbers_of (items_of items.now) }
-    ensures room { Reserved list.new }
-{
-    list.clear();
-    let mut rest = items;
-    while let Some((word, after)) = next_item(rest) {
-        let Some(number) = move_of(word) else {
-            return Err(Wrong::Move);
-        };
-        if list.len() >= ROOM {
-            return Err(Wrong::TooMany);
-        }
-        list.push_reserved(number);
-        rest = after;
-    }
-    Ok(())
-}
-
-fn two_numbers(items: &[u8]) -> Result<(u32, u32), Wrong>
-    ensures { result ≡ pair_of (items_of items.now) }
-{
-    let Some((first, rest)) = next_item(items) else {
-        return Err(Wrong::Number);
-    };
-    let Some((second, rest)) = next_item(rest) else {
-        return Err(Wrong::Number);
-    };
-    if next_item(rest).is_some() {
-        return Err(Wrong::Number);
-    }
-    match (number_of(first, u32::MAX), number_of(second, u32::MAX)) {
-        (Some(first), Some(second)) => Ok((first, second)),
-        _ => Err(Wrong::Number),
-    }
-}
-
-// Reads a line of bytes into `list`, and gives the text below it.
-pub(crate) fn read_listing<'t>(
+// Reads a line of items into `items`.
+pub(crate) fn read_items<T: Drop, F: Fn(&[u8]) -> Result<T, Wrong>>(
     keyword: &[u8],
-    text: &'t [u8],
-    list: &mut Vec<u8>,
-) -> Result<&'t [u8], Wrong>
-    requires { Reserved list.old }
-    ensures value { told (λ below. (list.new.items, lines below.now)) result ≡ line_of keyword.now bytes (lines text.now) }
-    ensures room { Reserved list.new }
+    lines: &mut Lines,
+    item_of: F,
+    items: &mut Items<T>,
+) -> Result<(), Wrong>
+    requires { F.IsAlwaysCallable item_of }
+    ensures { (meaning : List ℕ → Option T) (wrong : Wrong) → Computes F.Fn item_of meaning wrong
+        → told (λ _. (items.new, lines_left lines.new)) result
+        ≡ line_of keyword.now (each meaning wrong []) (lines_left lines.old) }
 {
-    let (items, below) = open_line(keyword, text)?;
-    fill_bytes(items, list)?;
-    Ok(below)
+    take_items(open_line(keyword, lines)?, item_of, items)
 }
 
-// Reads a line of moves into `list`, and gives the text below it.
-pub(crate) fn read_moves<'t>(
-    keyword: &[u8],
-    text: &'t [u8],
-    list: &mut Vec<u16>,
-) -> Result<&'t [u8], Wrong>
-    requires { Reserved list.old }
-    ensures value { told (λ below. (list.new.items, lines below.now)) result ≡ line_of keyword.now move_numbers_of (lines text.now) }
-    ensures room { Reserved list.new }
+// Just two numbers.
+fn two_numbers(mut words: Words) -> Option<(u32, u32)>
+    ensures { ok_or result Wrong.Number ≡ pair_of (words_left words.entry) }
 {
-    let (items, below) = open_line(keyword, text)?;
-    fill_moves(items, list)?;
-    Ok(below)
+    let first = number_of(words.next()?, u32::MAX)?;
+    let second = number_of(words.next()?, u32::MAX)?;
+    words.next().is_none().then_some((first, second))
 }
 
-// The two numbers of a line, and the text below it.
-pub(crate) fn read_pair<'t>(keyword: &[u8], text: &'t [u8]) -> Result<((u32, u32), &'t [u8]), Wrong>
-    ensures { told (λ x. (x.0, lines x.1.now)) result ≡ line_of keyword.now pair_of (lines text.now) }
+// The two numbers of a line.
+pub(crate) fn read_pair(keyword: &[u8], lines: &mut Lines) -> Result<(u32, u32), Wrong>
+    ensures { told (λ pair. (pair, lines_left lines.new)) result
+        ≡ line_of keyword.now pair_of (lines_left lines.old) }
 {
-    let (items, below) = open_line(keyword, text)?;
-    Ok((two_numbers(items)?, below))
+    two_numbers(open_line(keyword, lines)?).ok_or(Wrong::Number)
 }

@@ -1,6 +1,10 @@
 // What a single word spells.
-ghost use Rattle.std.specs.Prelude.{◌≡◌, ◌<◌, IfSome};
+ghost use Rattle.std.specs.Prelude.{◌≡◌, ◌<◌, IfOk};
+ghost use Rattle.std.specs.Option.{ok_or};
 ghost use Rattle.task.specs.Words.{byte_of, hex_digit, move_number, number_of};
+
+use crate::fault::Wrong;
+use std::str;
 
 const MOST_LEFT: u32 = 255;
 
@@ -11,56 +15,38 @@ const MOST_RIGHT: u32 = 65279;
 pub(crate) fn number_of(word: &[u8], limit: u32) -> Option<u32>
     ensures { result ≡ number_of limit word.now }
 {
-    if word.is_empty() {
+    // A sign is no digit, though `parse` takes one.
+    if !word.iter().all(|byte| byte.is_ascii_digit()) {
         return None;
     }
-    let mut value: u32 = 0;
-    for digit in word {
-        if !digit.is_ascii_digit() {
-            return None;
-        }
-        let more = u64::from(value) * 10 + u64::from(*digit - b'0');
-        if more > u64::from(limit) {
-            return None;
-        }
-        value = more as u32;
-    }
-    Some(value)
+    let number = str::from_utf8(word).ok()?.parse().ok()?;
+    (number <= limit).then_some(number)
 }
 
-fn hex_digit(digit: u8) -> Option<u8>
-    ensures value { result ≡ hex_digit digit }
-    ensures bound { IfSome result (λ d. d < 16) }
+fn hex_digit(digit: u8) -> Result<u8, Wrong>
+    ensures value { result ≡ ok_or (hex_digit digit) Wrong.Byte }
+    ensures bound { IfOk result (λ d. d < 16) }
 {
-    match digit {
-        b'0'..=b'9' => Some(digit - b'0'),
-        b'a'..=b'f' => Some(digit - b'a' + 10),
-        b'A'..=b'F' => Some(digit - b'A' + 10),
-        _ => None,
-    }
+    let value = char::from(digit).to_digit(16).ok_or(Wrong::Byte)?;
+    Ok(value as u8)
 }
 
-pub(crate) fn byte_of(word: &[u8]) -> Option<u8>
-    ensures { result ≡ byte_of word.now }
+pub(crate) fn byte_of(word: &[u8]) -> Result<u8, Wrong>
+    ensures { result ≡ ok_or (byte_of word.now) Wrong.Byte }
 {
     let [high, low] = word else {
-        return None;
+        return Err(Wrong::Byte);
     };
-    match (hex_digit(*high), hex_digit(*low)) {
-        (Some(high), Some(low)) => Some(16 * high + low),
-        _ => None,
-    }
+    Ok(16 * hex_digit(*high)? + hex_digit(*low)?)
 }
 
-pub(crate) fn move_of(word: &[u8]) -> Option<u16>
-    ensures { result ≡ move_number word.now }
+pub(crate) fn move_of(word: &[u8]) -> Result<u16, Wrong>
+    ensures { result ≡ ok_or (move_number word.now) Wrong.Move }
 {
-    let [side, digits @ ..] = word else {
-        return None;
-    };
-    match *side {
-        b'L' => Some(number_of(digits, MOST_LEFT)? as u16),
-        b'R' => Some(FIRST_RIGHT + number_of(digits, MOST_RIGHT)? as u16),
+    let number = match word {
+        [b'L', digits @ ..] => number_of(digits, MOST_LEFT).map(|n| n as u16),
+        [b'R', digits @ ..] => number_of(digits, MOST_RIGHT).map(|n| FIRST_RIGHT + n as u16),
         _ => None,
-    }
+    };
+    number.ok_or(Wrong::Move)
 }

@@ -1,47 +1,76 @@
-// The first line of a text, and the first word of a line.
-ghost use Rattle.std.specs.Prelude.{◌≡◌, ◌<◌, ◌≤◌, [], ◌∷◌, length, IfSome, MatchOption};
-ghost use Rattle.task.specs.Pieces.{before, items_of, lines, words};
+// The lines of a text, and the words of a line.
+ghost use Rattle.std.specs.Prelude.{◌≡◌, ◌≢◌, ◌∷◌, ◌++◌, All, MatchOption};
+ghost use Rattle.std.specs.Iterator.{YieldsFirstRef, item_count};
+ghost use Rattle.task.specs.Left.{lines_left, words_left};
+ghost use Rattle.task.specs.Pieces.{lines, words};
 
-fn count_before(text: &[u8], end: u8) -> usize
-    ensures value { result ≡ before end text.now }
-    ensures bound { result ≤ length text.now }
+// The bytes before the first `end`, and those after it if there is one.
+fn cut(text: &[u8], end: u8) -> (&[u8], Option<&[u8]>)
+    ensures first { All (λ byte. byte ≢ end) result.0.now }
+    ensures whole { MatchOption result.1 (text.now ≡ result.0.now)
+        (λ rest. text.now ≡ result.0.now ++ end ∷ rest.now) }
 {
-    let mut count = 0;
-    while count < text.len() && text[count] != end {
-        count += 1;
+    match text.iter().position(|byte| *byte == end) {
+        Some(at) => (&text[..at], Some(&text[at + 1..])),
+        None => (text, None),
     }
-    count
 }
 
-// The first word of a line, and the rest from the space that ends it.
-pub(crate) fn first_word(line: &[u8]) -> (&[u8], &[u8])
-    ensures value { words line.now ≡ result.0.now ∷ items_of result.1.now }
-    ensures bound { length result.1.now ≤ length line.now }
-{
-    line.split_at(count_before(line, b' '))
+// Each line comes without the LF that ends it.
+#[derive(Drop)]
+pub(crate) struct Lines<'t> {
+    rest: &'t [u8],
 }
 
-// The first of the items that follow a word, each after its space, and the items after it.
-pub(crate) fn next_item(items: &[u8]) -> Option<(&[u8], &[u8])>
-    ensures value { MatchOption result (items_of items.now ≡ []) (λ x. items_of items.now ≡ x.0.now ∷ items_of x.1.now) }
-    ensures bound { IfSome result (λ x. length x.1.now < length items.now) }
-{
-    let [_, line @ ..] = items else {
-        return None;
-    };
-    Some(first_word(line))
-}
-
-// The first line of a text, without the LF that ends it, and the text below it.
-pub(crate) fn first_line(text: &[u8]) -> Option<(&[u8], &[u8])>
-    ensures { MatchOption result (lines text.now ≡ []) (λ x. lines text.now ≡ x.0.now ∷ lines x.1.now) }
-{
-    if text.is_empty() {
-        return None;
+impl<'t> Lines<'t> {
+    pub(crate) fn new(text: &'t [u8]) -> Lines<'t>
+        ensures { lines_left result ≡ lines text.now }
+    {
+        Lines { rest: text }
     }
-    let (line, rest) = text.split_at(count_before(text, b'\n'));
-    match rest {
-        [_, below @ ..] => Some((line, below)),
-        [] => Some((line, rest)),
+}
+
+impl<'t> Iterator for Lines<'t> {
+    type Item = &'t [u8];
+
+    ghost next_gives = { YieldsFirstRef lines_left };
+
+    ghost remaining = { item_count lines_left };
+
+    fn next(&mut self) -> Option<&'t [u8]> {
+        if self.rest.is_empty() {
+            return None;
+        }
+        let (line, below) = cut(self.rest, b'\n');
+        self.rest = below.unwrap_or(&[]);
+        Some(line)
+    }
+}
+
+// A space stands between two words. After the last word there is no rest.
+#[derive(Drop)]
+pub(crate) struct Words<'t> {
+    rest: Option<&'t [u8]>,
+}
+
+impl<'t> Words<'t> {
+    pub(crate) fn new(line: &'t [u8]) -> Words<'t>
+        ensures { words_left result ≡ words line.now }
+    {
+        Words { rest: Some(line) }
+    }
+}
+
+impl<'t> Iterator for Words<'t> {
+    type Item = &'t [u8];
+
+    ghost next_gives = { YieldsFirstRef words_left };
+
+    ghost remaining = { item_count words_left };
+
+    fn next(&mut self) -> Option<&'t [u8]> {
+        let (word, rest) = cut(self.rest?, b' ');
+        self.rest = rest;
+        Some(word)
     }
 }

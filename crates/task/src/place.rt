@@ -1,10 +1,10 @@
 // A place for one task. A text is read into the spare content, which is shown only if the whole text was fine.
 ghost use Rattle.std.specs.Prelude.{◌≡◌, ◌≤◌, length, IfOk};
-ghost use Rattle.task.specs.Held.{content_of, empty, kept};
+ghost use Rattle.task.specs.Held.{empty, kept};
 ghost use Rattle.task.specs.Places.{task_of};
 ghost use Rattle.task.specs.Spelled.{spelled, told};
 
-use crate::content::{Content, ROOM};
+use crate::content::Content;
 use crate::fault::TextFault;
 use crate::reading::fill;
 use std::alloc::{AllocError, Global};
@@ -16,26 +16,14 @@ pub struct Task {
     spare: Content,
 }
 
-fn empty_content(heap: Global) -> Result<Content, AllocError>
-    ensures { IfOk result (λ c. content_of c ≡ empty) }
-{
-    Ok(Content {
-        left: Vec::with_capacity(heap, ROOM)?,
-        right: Vec::with_capacity(heap, ROOM)?,
-        left_location: 0,
-        right_location: 0,
-        moves: Vec::with_capacity(heap, ROOM)?,
-    })
-}
-
 impl Task {
     // An empty task, with all the memory that any task needs.
     pub fn new(heap: Global) -> Result<Task, AllocError>
         ensures { IfOk result (λ t. task_of t ≡ empty) }
     {
         Ok(Task {
-            shown: empty_content(heap)?,
-            spare: empty_content(heap)?,
+            shown: Content::new(heap)?,
+            spare: Content::new(heap)?,
         })
     }
 

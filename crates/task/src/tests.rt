@@ -54,3 +54,15 @@ fn refuses_what_follows_the_moves(rt: HostRuntime) -> Result<(), Fail> {
     );
     Ok(())
 }
+
+#[test]
+fn a_fault_prints_its_line_and_its_phrase(rt: HostRuntime) -> Result<(), Fail> {
+    let line = 2;
+    let wrong = Wrong::Byte;
+    let printed = format!(in rt.alloc(); "{}", TextFault { line, wrong })?;
+    assert_eq!(rt;
+        printed.as_str(),
+        "line 2: a byte is not two hexadecimal digits"
+    );
+    Ok(())
+}

@@ -1,36 +1,40 @@
-use Rattle.std.proofs.Common.{◌≡◌, ◌+◌, ◌-◌, ◌*◌, ◌<◌, true, ◌&&◌, length, get_or, drop, Some, sym, ap, ◌∙◌, arith, drop_of_length-le, false-eqb}
+use Rattle.std.proofs.Common.{◌≡◌, true, refl, sym, ap, subst, ◌∙◌, rules}
+use Rattle.std.proofs.lemmas.List.Recursion.{and_is}
+use Rattle.std.proofs.lemmas.Str.Parse.{parse_digits}
+use Rattle.std.specs.Char.{is_ascii_digit}
 use Rattle.std.specs.Str.{all_ascii_digits}
-use Rattle.task.specs.Words.{value_from}
-use Rattle.task.proofs.Digits.{value_grows, number_no_digits, number_too_large, number_is, digits_from, value_after}
+use Rattle.task.proofs.Digits.{own, digits_text, number_no_digits, number_found, number_missing, ParsesDigits}
 use Rattle.task.proofs.number.number_of.Goals as goal
+use Rattle.task.proofs.number.number_of.Goals.{After-all, After-parse}
 
-pub returns-then-not-is_ascii_digit : goal.returns-then-not-is_ascii_digit
-returns-then-not-is_ascii_digit c =
-    sym (number_no_digits c.args.limit c.args.word.now
-    (sym c.loop-digit.invariant.1 ∙ digits_from c.args.word.now c.loop-digit.digit-index (omega arith) ∙ ap (λ t. t && all_ascii_digits (drop (c.loop-digit.digit-index + 1) c.args.word.now)) (sym c.if-not-is_ascii_digit.ensures.value)))
+digits : (c : After-all) → c.all.result ≡ all_ascii_digits c.args.word.now
+digits c = and_is all_ascii_digits is_ascii_digit refl (λ _ _. refl) c.args.word.now 0 _ (search rules) (search rules)
 
-pub returns-then-more-from : goal.returns-then-more-from
-returns-then-more-from c =
-    let ws = c.args.word.now in
-    let next = 10 * c.loop-digit.value + (get_or ws c.loop-digit.digit-index 0 - 48) in
-    let whole = sym c.loop-digit.invariant.2 ∙ value_after c.loop-digit.value ws c.loop-digit.digit-index (omega arith) in
-    sym (number_too_large c.args.limit ws (omega (arith, whole, value_grows next (drop (c.loop-digit.digit-index + 1) ws))))
+parsed : (c : After-parse) → all_ascii_digits c.args.word.now ≡ true → ParsesDigits c.args.word.now c.parse.result
+parsed c all =
+    let text = digits_text c.args.word.now _ c.from_utf8.result all c.from_utf8.ensures.cases in
+    let same : c.in_ok-ok.field-0 ≡ text.0 = cc (c.in_ok-ok.ensures.value, text.1) in
+    let read : c.in_ok-ok.field-0.now ≡ c.args.word.now = ap (λ s. s.now) same ∙ text.2 in
+    subst (λ bs. ParsesDigits bs c.parse.result) read (parse_digits own 32 c.in_ok-ok.field-0.now c.parse.result c.parse.ensures.value.0 (ap all_ascii_digits read ∙ all))
 
-pub loop-digit-preserved : goal.loop-digit-preserved
-loop-digit-preserved c =
-    let ws = c.args.word.now in
-    let i = c.loop-digit.digit-index in
-    let next : c.from.result * 10 + c.from-in-loop-digit.result ≡ 10 * c.loop-digit.value + (get_or ws i 0 - 48) = omega arith in (
-      omega arith,
-      ap (λ t. t && all_ascii_digits (drop (i + 1) ws)) c.if-not-is_ascii_digit.ensures.value ∙ sym (digits_from ws i (omega arith)) ∙ c.loop-digit.invariant.1,
-      ap (λ n. value_from n (drop (i + 1) ws)) next ∙ sym (value_after c.loop-digit.value ws i (omega arith)) ∙ c.loop-digit.invariant.2,
-    )
+pub returns-then-not-all : goal.returns-then-not-all
+returns-then-not-all c =
+    sym (number_no_digits c.args.limit c.args.word.now (sym (digits (goal.at.returns-then-not-all c).After-all) ∙ c.if-not-all.true))
+
+pub returns-in_err-ok : goal.returns-in_err-ok
+returns-in_err-ok c =
+    let all = sym (digits (goal.at.returns-in_err-ok c).After-all) ∙ c.if-not-all.false in
+    let text = digits_text c.args.word.now _ c.from_utf8.result all c.from_utf8.ensures.cases in
+    cc (c.in_err-ok.ensures.value, text.1)
+
+pub returns-in_err-number : goal.returns-in_err-number
+returns-in_err-number c =
+    let all = sym (digits (goal.at.returns-in_err-number c).After-all) ∙ c.if-not-all.false in
+    c.from_residual-in_err-number.ensures
+    ∙ sym (number_missing c.args.limit c.args.word.now c.parse.result c.ranges.limit.fits (parsed (goal.at.returns-in_err-number c).After-parse all) (sym c.in_err-number.ensures.value))
 
 pub returns : goal.returns
 returns c =
-    let ws = c.args.word.now in
-    let none = drop_of_length-le ws {i = c.loop-digit.digit-index} (omega arith) in
-    let some : 0 < length ws = omega (arith, false-eqb _ 0 c.if-is_empty.ensures) in
-    let value : c.loop-digit.value ≡ value_from 0 ws = ap (value_from c.loop-digit.value) (sym none) ∙ c.loop-digit.invariant.2 in
-    let all : all_ascii_digits ws ≡ true = sym c.loop-digit.invariant.1 ∙ ap all_ascii_digits none in
-    ap Some value ∙ sym (number_is c.args.limit ws some all (omega arith))
+    let all = sym (digits (goal.at.returns c).After-all) ∙ c.if-not-all.false in
+    c.then_some.ensures
+    ∙ number_found c.args.limit c.args.word.now c.parse.result c.in_ok-number.number all (parsed (goal.at.returns c).After-parse all) (sym c.in_ok-number.ensures.value)
