@@ -1,14 +1,11 @@
 // Reads what a replay is about from standard input, and prints the replay move by move.
 #![tactic(auto)]
 
-mod showing;
-
 use graph::ThreadGraph;
+use locks::moves::Move;
 use readers::listing::Listing;
 use search::folders::{Folder, Room};
-use search::playing::{at_starts, make_move};
-use search::replaying::replay;
-use showing::{MoveNumber, ShownConfiguration};
+use search::threads::{Pair, TwoThreads};
 use std::alloc::{AllocError, Global};
 use std::io;
 use std::io::Read;
@@ -24,9 +21,7 @@ fn run(rt: &HostRuntime) -> anyhow::Result<()> {
     rt.stdin().read_to_end(&mut text)?;
     let mut task = Task::new(heap)?;
     if let Err(fault) = task.read(text.as_slice()) {
-        let line = fault.line;
-        let what = fault.wrong.what();
-        println!(rt; "line {line}: {what}")?;
+        println!(rt; "{fault}")?;
         return Ok(());
     }
     let Some(left) = opened(rt, "left", task.left())? else {
@@ -35,8 +30,9 @@ fn run(rt: &HostRuntime) -> anyhow::Result<()> {
     let Some(right) = opened(rt, "right", task.right())? else {
         return Ok(());
     };
-    trace(rt, &left, &right, task.moves())?;
-    conclude(rt, &left, &right, &task)?;
+    let threads = TwoThreads::new(&left, &right);
+    trace(rt, &threads, task.moves())?;
+    conclude(rt, &threads, &task)?;
     Ok(())
 }
 
@@ -44,18 +40,14 @@ fn run(rt: &HostRuntime) -> anyhow::Result<()> {
 fn opened(rt: &HostRuntime, side: &str, bytes: &[u8]) -> anyhow::Result<Option<Folder<Listing>>> {
     let mut listing = Listing::new(rt.alloc())?;
     if let Err(fault) = listing.read(bytes) {
-        let refusal = fault.refusal();
-        println!(rt; "{side}: {refusal}")?;
+        println!(rt; "{side}: {}", fault.refusal())?;
         return Ok(None);
     }
     let locations = listing.locations();
     let mut folder = Folder::open(Room::new(rt.alloc())?, listing);
     match folder.summarise() {
         Ok(states) => println!(rt; "{side}: locations {locations}, locked states {states}")?,
-        Err(fault) => {
-            let refusal = fault.refusal();
-            println!(rt; "{side}: locations {locations}, {refusal}")?;
-        }
+        Err(fault) => println!(rt; "{side}: locations {locations}, {}", fault.refusal())?,
     }
     Ok(Some(folder))
 }
@@ -63,42 +55,43 @@ fn opened(rt: &HostRuntime, side: &str, bytes: &[u8]) -> anyhow::Result<Option<F
 // Where both threads are after each move, up to the first that cannot be made.
 fn trace(
     rt: &HostRuntime,
-    left: &Folder<Listing>,
-    right: &Folder<Listing>,
+    threads: &TwoThreads<Listing, Listing>,
     moves: &[u16],
 ) -> io::Result<()> {
-    let mut reached = at_starts(left, right);
-    let shown = ShownConfiguration(reached);
-    println!(rt; "start: {shown}")?;
+    let mut reached = threads.at_starts();
+    println!(rt; "start: {reached}")?;
     for number in moves {
-        match make_move(left, right, &reached, *number) {
-            Ok(next) => reached = next,
-            Err(_) => return Ok(()),
-        }
-        let made = MoveNumber(*number);
-        let shown = ShownConfiguration(reached);
-        println!(rt; "{made}: {shown}")?;
+        let Ok(made) = Move::try_from(*number) else {
+            return Ok(());
+        };
+        let Ok(next) = threads.make_move(&reached, *number) else {
+            return Ok(());
+        };
+        reached = next;
+        println!(rt; "{made}: {reached}")?;
     }
     Ok(())
 }
 
 fn conclude(
     rt: &HostRuntime,
-    left: &Folder<Listing>,
-    right: &Folder<Listing>,
+    threads: &TwoThreads<Listing, Listing>,
     task: &Task,
 ) -> io::Result<()> {
-    let a = task.left_location();
-    let b = task.right_location();
+    let pair = Pair {
+        left: task.left_location(),
+        right: task.right_location(),
+    };
     let moves = task.moves();
-    match replay(left, right, a, b, moves) {
+    match threads.replay(pair, moves) {
         Ok(()) => {
-            let count = moves.len();
-            println!(rt; "replays to {a} {b}, moves {count}")
+            println!(rt;
+                "replays to {} {}, moves {}",
+                pair.left,
+                pair.right,
+                moves.len()
+            )
         }
-        Err(fault) => {
-            let refusal = fault.refusal();
-            println!(rt; "{refusal}")
-        }
+        Err(fault) => println!(rt; "{}", fault.refusal()),
     }
 }

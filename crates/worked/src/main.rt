@@ -3,9 +3,10 @@
 
 mod threads;
 
+use locks::sets::LockSet;
 use readers::listing::Listing;
 use search::folders::{Folder, Room};
-use search::replaying::replay;
+use search::threads::{Pair, TwoThreads};
 use std::env;
 use std::time::Instant;
 
@@ -34,23 +35,32 @@ fn run(rt: &HostRuntime) -> anyhow::Result<()> {
 fn replays(rt: &HostRuntime) -> anyhow::Result<()> {
     let a = &threads::INNER_ONE;
     let b = &threads::INNER_ZERO;
-    replayed(rt, a, b, 3, 1, &[0, 0, 0, 256])?;
-    replayed(rt, &threads::TWO_WAYS, b, 5, 3, &[256, 256, 256, 0, 1])?;
-    replayed(rt, a, b, 0, 0, &[])?;
-    replayed(rt, a, b, 9, 0, &[])?;
-    replayed(rt, a, b, 0, 9, &[])?;
-    replayed(rt, a, b, 3, 1, &[0, 1])?;
-    replayed(rt, a, b, 3, 1, &[16])?;
-    replayed(rt, a, b, 3, 1, &[256, 0, 0])?;
-    replayed(rt, a, b, 3, 1, &[0])
+    replayed(rt, a, b, pair(3, 1), &[0, 0, 0, 256])?;
+    replayed(
+        rt,
+        &threads::TWO_WAYS,
+        b,
+        pair(5, 3),
+        &[256, 256, 256, 0, 1],
+    )?;
+    replayed(rt, a, b, pair(0, 0), &[])?;
+    replayed(rt, a, b, pair(9, 0), &[])?;
+    replayed(rt, a, b, pair(0, 9), &[])?;
+    replayed(rt, a, b, pair(3, 1), &[0, 1])?;
+    replayed(rt, a, b, pair(3, 1), &[16])?;
+    replayed(rt, a, b, pair(3, 1), &[256, 0, 0])?;
+    replayed(rt, a, b, pair(3, 1), &[0])
+}
+
+fn pair(left: u32, right: u32) -> Pair {
+    Pair { left, right }
 }
 
 fn replayed(
     rt: &HostRuntime,
     left: &[u8],
     right: &[u8],
-    left_location: u32,
-    right_location: u32,
+    pair: Pair,
     moves: &[u16],
 ) -> anyhow::Result<()> {
     let Some(left) = folder(rt, left)? else {
@@ -59,12 +69,10 @@ fn replayed(
     let Some(right) = folder(rt, right)? else {
         return Ok(());
     };
-    match replay(&left, &right, left_location, right_location, moves) {
-        Ok(()) => println!(rt; "{left_location} {right_location} by {moves:?}: replays")?,
-        Err(fault) => {
-            let refusal = fault.refusal();
-            println!(rt; "{left_location} {right_location} by {moves:?}: {refusal}")?;
-        }
+    print!(rt; "{} {} by {moves:?}: ", pair.left, pair.right)?;
+    match TwoThreads::new(&left, &right).replay(pair, moves) {
+        Ok(()) => println!(rt; "replays")?,
+        Err(fault) => println!(rt; "{}", fault.refusal())?,
     }
     Ok(())
 }
@@ -90,8 +98,7 @@ fn heavy(rt: &HostRuntime) -> anyhow::Result<()> {
 fn folder(rt: &HostRuntime, bytes: &[u8]) -> anyhow::Result<Option<Folder<Listing>>> {
     let mut listing = Listing::new(rt.alloc())?;
     if let Err(fault) = listing.read(bytes) {
-        let refusal = fault.refusal();
-        println!(rt; "{refusal}")?;
+        println!(rt; "{}", fault.refusal())?;
         return Ok(None);
     }
     Ok(Some(Folder::open(Room::new(rt.alloc())?, listing)))
@@ -103,42 +110,31 @@ fn count(rt: &HostRuntime, name: &str, bytes: &[u8]) -> anyhow::Result<()> {
     };
     match folder.summarise() {
         Ok(states) => println!(rt; "{name}: {states}")?,
-        Err(fault) => {
-            let refusal = fault.refusal();
-            println!(rt; "{name}: {refusal}")?;
-        }
+        Err(fault) => println!(rt; "{name}: {}", fault.refusal())?,
     }
     Ok(())
 }
 
 // The entries of one location: distance, and each held lock with its history.
-fn entries_at(rt: &HostRuntime, bytes: &[u8], location: u16) -> anyhow::Result<()> {
+fn entries_at(rt: &HostRuntime, bytes: &[u8], location: u32) -> anyhow::Result<()> {
     let Some(mut folder) = folder(rt, bytes)? else {
         return Ok(());
     };
-    let states = folder.summarise().unwrap_or(0);
-    for n in 0..states {
-        let Some(entry) = folder.entry(n) else {
-            return Ok(());
-        };
-        if entry.state.location == location {
-            let distance = entry.distance;
-            print!(rt; "location {location} at distance {distance}:")?;
-            for held in entry.state.held.as_slice() {
-                let lock = held.lock;
-                print!(rt; " {lock} after")?;
-                for other in 0..8u8 {
-                    if held.history.has(other) {
-                        print!(rt; " {other}")?;
-                    }
-                }
+    let _ = folder.summarise();
+    for (_, entry) in folder.entries_at(location) {
+        print!(rt; "location {location} at distance {}:", entry.distance)?;
+        for held in entry.state.held.as_slice() {
+            print!(rt; " {} after", held.lock)?;
+            if held.history != LockSet::none() {
+                print!(rt; " {}", held.history)?;
             }
-            println!(rt; "")?;
         }
+        println!(rt; "")?;
     }
     Ok(())
 }
 
+// Not the threads of the list above, and by names that are one word each, as a table of times reads them.
 fn times(rt: &HostRuntime) -> anyhow::Result<()> {
     let heap = rt.alloc();
     time(
@@ -152,7 +148,8 @@ fn times(rt: &HostRuntime) -> anyhow::Result<()> {
     time(rt, "too-crowded", threads::crowded(heap, 7, 1)?.as_slice())
 }
 
-// Nanoseconds for one summary, on the average, and the number of its states: 0 where it is refused.
+// Nanoseconds for one summary, on the average, and the number of its states: 0 where it is refused, as the table of
+// times has it.
 fn time(rt: &HostRuntime, name: &str, bytes: &[u8]) -> anyhow::Result<()> {
     let Some(mut folder) = folder(rt, bytes)? else {
         return Ok(());

@@ -3,21 +3,21 @@ use Rattle.std.proofs.Common.{◌≡◌, ℕ, zero, suc, ◌+◌, ◌<◌, ◌�
 use Rattle.std.proofs.lemmas.List.{length-map}
 use Rattle.std.proofs.lemmas.Bool.{and_parts, both_ways, eqb-true, ne_eqb, leb-true, le-leb, ltb-true, cond-false}
 use Rattle.std.specs.List.{slice_get}
-use Rattle.locks.specs.Alone.{After, next, waits, nesting_fault, depth_fault, alone}
+use Rattle.locks.specs.Alone.{After, next, waits, nesting_fault, depth_fault, alone, fault_of}
+use Rattle.locks.specs.declared.faults.Fault.{Fault}
+use Rattle.locks.specs.declared.faults.Fault.TheVariants as fault
 use Rattle.locks.specs.declared.steps.Step.{Step}
 use Rattle.locks.specs.Graphs.{Graph, step_at, steps_at}
 use Rattle.locks.specs.States.{State, beginning}
-use Rattle.locks.proofs.Basics.{zero_one, nth_there}
+use Rattle.locks.proofs.Basics.{nth_there}
 use Rattle.search.specs.declared.entries.Entry.{Entry}
-use Rattle.search.specs.declared.faults.Fault.{Fault}
-use Rattle.search.specs.declared.faults.Fault.TheVariants as fault
-use Rattle.search.specs.declared.faults.SummariseFault.TheVariants.{Nesting, Depth}
-use Rattle.search.specs.Faults.{fault_of, EntryFault, Least, place_of}
+use Rattle.search.specs.declared.faults.SummariseFault.TheVariants.{Reaches}
+use Rattle.search.specs.Faults.{EntryFault, Least, place_of}
 use Rattle.search.specs.Searching.{Followed, Searched}
 use Rattle.search.specs.Summaries.{most_states, state_in, StartEntry, LaterEntry, Tree}
 use Rattle.search.specs.Summarising.{Summarised}
 use Rattle.search.proofs.SearchLaws.{all_apart, all_reached}
-use Rattle.search.proofs.SummaryLaws.{says_ok, says_nesting, says_depth, one_answer}
+use Rattle.search.proofs.SummaryLaws.{says_ok, refused_nesting, refused_depth, one_answer}
 use Rattle.worked_threads.specs.Worked.{Counts, Refuses}
 use Rattle.worked_threads.proofs.Tests.{implies, implies_says, every, every_says, some, some_says, on, on_says, same_state, state_says, says_state}
 
@@ -252,9 +252,9 @@ pub nesting_refuses : (G : Graph) (es : List Entry) (p : ℕ) → nesting_test G
 nesting_refuses G es p t =
     let r = and_parts (search_test G es) (fault_test G fault.Nesting es (Some p)) t in
     record {
-      fault = Nesting p;
-      answer = one_answer G (Err (Nesting p)) []
-          (says_nesting G es [] p (searched G es r.0) (few_entries G es r.0) (least_says G fault.Nesting es (Some p) r.1) refl);
+      fault = Reaches fault.Nesting p;
+      answer = one_answer G (Err (Reaches fault.Nesting p)) []
+          (refused_nesting G es p (searched G es r.0) (few_entries G es r.0) (least_says G fault.Nesting es (Some p) r.1), refl);
       refusal = refl;
     }
 
@@ -266,16 +266,16 @@ depth_refuses G es p t =
     let r = and_parts (search_test G es) (fault_test G fault.Nesting es None && fault_test G fault.Depth es (Some p)) t in
     let q = and_parts (fault_test G fault.Nesting es None) (fault_test G fault.Depth es (Some p)) r.1 in
     record {
-      fault = Depth p;
-      answer = one_answer G (Err (Depth p)) []
-          (says_depth G es [] p (searched G es r.0) (few_entries G es r.0) (least_says G fault.Nesting es None q.0) (least_says G fault.Depth es (Some p) q.1) refl);
+      fault = Reaches fault.Depth p;
+      answer = one_answer G (Err (Reaches fault.Depth p)) []
+          (refused_depth G es p (searched G es r.0) (few_entries G es r.0) (least_says G fault.Nesting es None q.0) (least_says G fault.Depth es (Some p) q.1), refl);
       refusal = refl;
     }
 
 -- the states of a summary, without their entries
 
 listed : (es : List Entry) (i : ℕ) (e : Entry) (σ : State) → slice_get es i ≡ Some e → state_in e ≡ σ → slice_get (map state_in es) i ≡ Some σ
-listed [] i e σ h q = let z : ◌≡◌ {A = ℕ} 0 1 = cc in zero_one z
+listed [] i e σ h q = cc
 listed (x ∷ es) zero e σ h q = let same : x ≡ e = cc in ap Some (ap state_in same ∙ q)
 listed (x ∷ es) (suc i) e σ h q = listed es i e σ h q
 

@@ -5,7 +5,6 @@ use Rattle.std.specs.List.{slice_get}
 use Rattle.locks.specs.declared.held.Held.{Held}
 use Rattle.locks.specs.declared.sets.LockSet.{LockSet}
 use Rattle.locks.specs.States.{State}
-use Rattle.locks.proofs.Basics.{zero_one}
 
 -- a conclusion where the condition is true
 abbrev pub implies : Bool → Bool → Bool
@@ -23,7 +22,7 @@ module _ {A : Type 0} where
   every f (x ∷ xs) = f 0 x && every (λ i. f (suc i)) xs
 
   pub every_says : (f : ℕ → A → Bool) (xs : List A) → every f xs ≡ true → (i : ℕ) (x : A) → slice_get xs i ≡ Some x → f i x ≡ true
-  every_says f [] t i x h = let z : ◌≡◌ {A = ℕ} 0 1 = cc in zero_one z
+  every_says f [] t i x h = cc
   every_says f (y ∷ xs) t zero x h =
       let same : y ≡ x = cc in subst (λ z. f 0 z ≡ true) same (and_parts (f 0 y) (every (λ i. f (suc i)) xs) t).0
   every_says f (y ∷ xs) t (suc i) x h =

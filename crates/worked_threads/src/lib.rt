@@ -4,8 +4,6 @@
 ghost use Rattle.worked_threads.specs.Worked.{WorkedThreadsComeOut};
 
 // From the bytes on: shortest schedules and pairs that are never reached, numbers of locked states, refusals.
-pub fn worked_threads_come_out() -> u8
+pub fn worked_threads_come_out()
     ensures { WorkedThreadsComeOut }
-{
-    0
-}
+{}
