@@ -1,4 +1,4 @@
-mod AskLaws
+pub mod AskLaws
 mod MeetingLaws
 mod Places
 mod WritingLaws

@@ -1,8 +1,8 @@
 // Questions about a pair of locations of two summarised threads.
 #![tactic(auto)]
 
-mod answers;
-mod asking;
+pub mod answers;
+pub mod asking;
 mod meeting;
 mod nearest;
 mod writing;

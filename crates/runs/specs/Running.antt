@@ -1,5 +1,6 @@
 -- What a run of calls on two folders hands back.
 use Rattle.std.specs.Prelude.{◌≡◌, List, [], ◌∷◌, ◌++◌, map, vec_items}
+use Rattle.std.specs.List.{flat_map}
 use Rattle.locks.specs.Graphs.{Graph}
 use Rattle.search.specs.declared.entries.Entry.{Entry}
 use Rattle.search.specs.Folders.{contents}
@@ -10,9 +11,9 @@ use Rattle.runs.specs.declared.calls.Answer.TheVariants as back
 use Rattle.runs.specs.declared.calls.Which.TheVariants.{First, Second}
 use Rattle.runs.specs.declared.running.Ran.{Ran}
 use Rattle.runs.specs.Calls.{asking, telling}
-use Rattle.runs.specs.Rules.{KeepsTheRules, GraphsWithin, entries_of}
+use Rattle.runs.specs.Rules.{KeepsTheRules, GraphsWithin, EntriesAre}
 
--- the graphs put into each folder by the calls, in order
+-- the graphs that a call puts into each folder
 
 abbrev pub firsts_by : {L R : Type 0} → Call L R → List L
 firsts_by (code.ExchangeFirst g) = g ∷ []
@@ -30,15 +31,7 @@ seconds_by (code.Entry w n) = []
 seconds_by (code.Ask q list) = []
 seconds_by (code.Replay q moves) = []
 
-abbrev pub firsts_in : {L R : Type 0} → List (Call L R) → List L
-firsts_in [] = []
-firsts_in (c ∷ cs) = firsts_by c ++ firsts_in cs
-
-abbrev pub seconds_in : {L R : Type 0} → List (Call L R) → List R
-seconds_in [] = []
-seconds_in (c ∷ cs) = seconds_by c ++ seconds_in cs
-
--- and those that the answers hand back, in order
+-- and those that an answer hands back
 
 abbrev pub first_of : {L R : Type 0} → Answer L R → List L
 first_of (back.ExchangedFirst g) = g ∷ []
@@ -56,21 +49,13 @@ second_of (back.Entry e) = []
 second_of (back.Asked r list) = []
 second_of (back.Replayed r moves) = []
 
-abbrev pub firsts_back : {L R : Type 0} → List (Answer L R) → List L
-firsts_back [] = []
-firsts_back (z ∷ zs) = first_of z ++ firsts_back zs
-
-abbrev pub seconds_back : {L R : Type 0} → List (Answer L R) → List R
-seconds_back [] = []
-seconds_back (z ∷ zs) = second_of z ++ seconds_back zs
-
 -- The answers keep the rules. The graphs handed back, and last the one that is left in the folder, are those that
 -- were put in, in order. Each folder's entries are those of its last summarise since its last exchange.
 pub record RunRight {L R : Type 0} (l : L → Graph) (r : R → Graph) (g : L) (h : R) (cs : List (Call L R)) (ran : Ran L R) : Type 0 where
   pub tables : List (List Entry)
   pub rules : KeepsTheRules (l g) (r h) (map (asking l r) cs) (map (telling l r) (vec_items ran.answers)) tables
   pub within : GraphsWithin (l g) (r h) (map (asking l r) cs)
-  pub first_graphs : firsts_back (vec_items ran.answers) ++ (contents ran.first).graph ∷ [] ≡ g ∷ firsts_in cs
-  pub second_graphs : seconds_back (vec_items ran.answers) ++ (contents ran.second).graph ∷ [] ≡ h ∷ seconds_in cs
-  pub first_entries : (contents ran.first).summary ≡ entries_of First (map (asking l r) cs) tables
-  pub second_entries : (contents ran.second).summary ≡ entries_of Second (map (asking l r) cs) tables
+  pub first_graphs : flat_map first_of (vec_items ran.answers) ++ (contents ran.first).graph ∷ [] ≡ g ∷ flat_map firsts_by cs
+  pub second_graphs : flat_map second_of (vec_items ran.answers) ++ (contents ran.second).graph ∷ [] ≡ h ∷ flat_map seconds_by cs
+  pub first_entries : EntriesAre First (map (asking l r) cs) tables (contents ran.first).summary
+  pub second_entries : EntriesAre Second (map (asking l r) cs) tables (contents ran.second).summary

@@ -5,8 +5,10 @@ ghost use Rattle.runs.specs.Obeying.{Obeys, AskedOf, ReplayedOf};
 
 use crate::calls::{Answer, Call, Question, Which};
 use graph::ThreadGraph;
+use pairs::answers::{AskFault, Verdict};
 use pairs::asking::ask;
 use search::folders::Folder;
+use search::replaying::ReplayFault;
 use search::threads::{Pair, TwoThreads};
 
 pub(crate) fn obey<L: ThreadGraph, R: ThreadGraph>(
@@ -23,8 +25,14 @@ pub(crate) fn obey<L: ThreadGraph, R: ThreadGraph>(
         Call::Summarise(Which::Second) => Answer::Summarised(second.summarise()),
         Call::Entry(Which::First, n) => Answer::Entry(first.entry(n)),
         Call::Entry(Which::Second, n) => Answer::Entry(second.entry(n)),
-        Call::Ask(question, list) => ask_of(first, second, question, list),
-        Call::Replay(question, moves) => replay_of(first, second, question, moves),
+        Call::Ask(question, mut list) => {
+            let answer = ask_of(first, second, question, &mut list);
+            Answer::Asked(answer, list)
+        }
+        Call::Replay(question, moves) => {
+            let answer = replay_of(first, second, question, &moves);
+            Answer::Replayed(answer, moves)
+        }
     }
 }
 
@@ -33,18 +41,17 @@ fn ask_of<L: ThreadGraph, R: ThreadGraph>(
     first: &Folder<L>,
     second: &Folder<R>,
     question: Question,
-    mut list: Vec<u16>,
-) -> Answer<L, R>
-    ensures { AskedOf L.ThreadGraph.meaning R.ThreadGraph.meaning (contents first.now) (contents second.now) question list.items result }
+    list: &mut [u16],
+) -> Result<Verdict, AskFault>
+    ensures { AskedOf L.ThreadGraph.meaning R.ThreadGraph.meaning (contents first.now) (contents second.now) question list.old result list.new }
 {
     let pair = question.pair();
-    let answer = match (question.left.folder, question.right.folder) {
-        (Which::First, Which::First) => ask(&TwoThreads::new(first, first), pair, &mut list),
-        (Which::First, Which::Second) => ask(&TwoThreads::new(first, second), pair, &mut list),
-        (Which::Second, Which::First) => ask(&TwoThreads::new(second, first), pair, &mut list),
-        (Which::Second, Which::Second) => ask(&TwoThreads::new(second, second), pair, &mut list),
-    };
-    Answer::Asked(answer, list)
+    match (question.left.folder, question.right.folder) {
+        (Which::First, Which::First) => ask(&TwoThreads::new(first, first), pair, list),
+        (Which::First, Which::Second) => ask(&TwoThreads::new(first, second), pair, list),
+        (Which::Second, Which::First) => ask(&TwoThreads::new(second, first), pair, list),
+        (Which::Second, Which::Second) => ask(&TwoThreads::new(second, second), pair, list),
+    }
 }
 
 // Replays on the folders that the question names.
@@ -52,18 +59,17 @@ fn replay_of<L: ThreadGraph, R: ThreadGraph>(
     first: &Folder<L>,
     second: &Folder<R>,
     question: Question,
-    moves: Vec<u16>,
-) -> Answer<L, R>
-    ensures { ReplayedOf L.ThreadGraph.meaning R.ThreadGraph.meaning (contents first.now) (contents second.now) question moves.items result }
+    moves: &[u16],
+) -> Result<(), ReplayFault>
+    ensures { ReplayedOf L.ThreadGraph.meaning R.ThreadGraph.meaning (contents first.now) (contents second.now) question moves.now result }
 {
     let pair = question.pair();
-    let answer = match (question.left.folder, question.right.folder) {
-        (Which::First, Which::First) => TwoThreads::new(first, first).replay(pair, &moves),
-        (Which::First, Which::Second) => TwoThreads::new(first, second).replay(pair, &moves),
-        (Which::Second, Which::First) => TwoThreads::new(second, first).replay(pair, &moves),
-        (Which::Second, Which::Second) => TwoThreads::new(second, second).replay(pair, &moves),
-    };
-    Answer::Replayed(answer, moves)
+    match (question.left.folder, question.right.folder) {
+        (Which::First, Which::First) => TwoThreads::new(first, first).replay(pair, moves),
+        (Which::First, Which::Second) => TwoThreads::new(first, second).replay(pair, moves),
+        (Which::Second, Which::First) => TwoThreads::new(second, first).replay(pair, moves),
+        (Which::Second, Which::Second) => TwoThreads::new(second, second).replay(pair, moves),
+    }
 }
 
 impl Question {

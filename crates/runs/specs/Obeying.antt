@@ -18,7 +18,7 @@ use Rattle.runs.specs.declared.calls.Call.{Call}
 use Rattle.runs.specs.declared.calls.Call.TheVariants as code
 use Rattle.runs.specs.declared.calls.Answer.{Answer}
 use Rattle.runs.specs.declared.calls.Answer.TheVariants as back
-use Rattle.runs.specs.Calls.{Telling, summarised, entry_is, asked, replayed, telling, by_which, folder_at}
+use Rattle.runs.specs.Calls.{asked, telling, by_which, folder_at}
 
 module _ {L R : Type 0} (l : L → Graph) (r : R → Graph) where
   abbrev pub graph_of : Contents L → Contents R → Which → Graph
@@ -29,16 +29,14 @@ module _ {L R : Type 0} (l : L → Graph) (r : R → Graph) where
 
   -- an ask or a replay of the folders that the question names
 
-  abbrev pub AskedOf : Contents L → Contents R → Question → List ℕ → Answer L R → Type 0
-  AskedOf f s q list z =
-      (x : pair.Answer) × (after : List ℕ) × (telling l r z ≡ asked x after)
-      × Asked (graph_of f s (folder_at q Left)) (graph_of f s (folder_at q Right)) (entries_in f s (folder_at q Left)) (entries_in f s (folder_at q Right))
+  abbrev pub AskedOf : Contents L → Contents R → Question → List ℕ → pair.Answer → List ℕ → Type 0
+  AskedOf f s q list x after =
+      Asked (graph_of f s (folder_at q Left)) (graph_of f s (folder_at q Right)) (entries_in f s (folder_at q Left)) (entries_in f s (folder_at q Right))
       q.left.location q.right.location list x after
 
-  abbrev pub ReplayedOf : Contents L → Contents R → Question → List ℕ → Answer L R → Type 0
-  ReplayedOf f s q ns z =
-      (x : Result (Unit {0}) ReplayFault) × (telling l r z ≡ replayed x ns)
-      × Replayed (graph_of f s (folder_at q Left)) (graph_of f s (folder_at q Right)) q.left.location q.right.location ns x
+  abbrev pub ReplayedOf : Contents L → Contents R → Question → List ℕ → Result (Unit {0}) ReplayFault → Type 0
+  ReplayedOf f s q ns x =
+      Replayed (graph_of f s (folder_at q Left)) (graph_of f s (folder_at q Right)) q.left.location q.right.location ns x
 
   -- what a call does to the first folder and the second, and answers
   abbrev pub Obeys : Contents L → Contents R → Call L R → Answer L R → Contents L → Contents R → Type 0
@@ -49,5 +47,7 @@ module _ {L R : Type 0} (l : L → Graph) (r : R → Graph) where
   Obeys f s (code.Summarise Second) z f' s' =
       (x : Result ℕ SummariseFault) × (z ≡ back.Summarised x) × Summarised (r s.graph) x s'.summary × (f' ≡ f) × (s'.graph ≡ s.graph)
   Obeys f s (code.Entry w n) z f' s' = (z ≡ back.Entry (slice_get (entries_in f s w) n)) × (f' ≡ f) × (s' ≡ s)
-  Obeys f s (code.Ask q list) z f' s' = AskedOf f s q (vec_items list) z × (f' ≡ f) × (s' ≡ s)
-  Obeys f s (code.Replay q moves) z f' s' = ReplayedOf f s q (vec_items moves) z × (f' ≡ f) × (s' ≡ s)
+  Obeys f s (code.Ask q list) z f' s' =
+      (x : pair.Answer) × (after : List ℕ) × (telling l r z ≡ asked x after) × AskedOf f s q (vec_items list) x after × (f' ≡ f) × (s' ≡ s)
+  Obeys f s (code.Replay q moves) z f' s' =
+      (x : Result (Unit {0}) ReplayFault) × (z ≡ back.Replayed x moves) × ReplayedOf f s q (vec_items moves) x × (f' ≡ f) × (s' ≡ s)

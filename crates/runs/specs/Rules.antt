@@ -1,7 +1,6 @@
 -- What each answer must be, from the calls before it and the graphs' meanings.
-use Rattle.std.specs.Prelude.{◌≡◌, ℕ, ◌⊎◌, List, [], length, take, Some, None, Err, Option, Result, slice_index_or}
+use Rattle.std.specs.Prelude.{◌≡◌, ℕ, ◌<◌, false, ◌⊎◌, List, [], length, take, Some, Err, Result, slice_index_or}
 use Rattle.std.specs.List.{slice_get}
-use Rattle.locks.specs.declared.together.Side.{Side}
 use Rattle.locks.specs.declared.together.Side.TheVariants.{Left, Right}
 use Rattle.locks.specs.Decomposition.{Faultless}
 use Rattle.locks.specs.Graphs.{Graph, Bounded}
@@ -16,7 +15,7 @@ use Rattle.search.specs.Summarising.{SummariseSays, Summarised}
 use Rattle.pairs.specs.Answers.{Answer, Answered}
 use Rattle.runs.specs.declared.calls.Question.{Question}
 use Rattle.runs.specs.declared.calls.Which.{Which}
-use Rattle.runs.specs.Calls.{Asking, exchange, summarise, entry, ask, replay, Telling, exchanged, summarised, entry_is, asked, replayed, folder_at, in_force, summarised_at}
+use Rattle.runs.specs.Calls.{Asking, exchange, summarise, entry, ask, replay, Telling, exchanged, summarised, entry_is, asked, replayed, folder_at, in_force, renews}
 
 -- no refusal of summarise applies to the graph, or one does
 abbrev pub Accepted : Graph → Type 0
@@ -25,21 +24,27 @@ Accepted G = Few G × Faultless G
 abbrev pub Refused : Graph → Type 0
 Refused G = (f : SummariseFault) × SummariseSays G (Err f) []
 
+-- the call at this place is the last summarise of a folder, and no exchange of it came after
+pub record SummarisedBy (w : Which) (before : List Asking) (i : ℕ) : Type 0 where
+  pub call : slice_get before i ≡ Some (summarise w)
+  pub last : (j : ℕ) (c : Asking) → i < j → slice_get before j ≡ Some c → renews w c ≡ false
+
+-- summarise was not called on a folder since its last exchange
+abbrev pub NeverSince : Which → List Asking → Type 0
+NeverSince w before = (i : ℕ) → SummarisedBy w before i → ⊥
+
 -- A folder is summarised once summarise was called on it since its last exchange and no refusal of summarise
 -- applies to its graph.
 abbrev pub IsSummarised : Which → Graph → Graph → List Asking → Type 0
-IsSummarised w G H before = ((i : ℕ) × (summarised_at w before ≡ Some i)) × Accepted (in_force w G H before)
+IsSummarised w G H before = ((i : ℕ) × SummarisedBy w before i) × Accepted (in_force w G H before)
 
 abbrev pub NotSummarised : Which → Graph → Graph → List Asking → Type 0
-NotSummarised w G H before = (summarised_at w before ≡ None) ⊎ Refused (in_force w G H before)
+NotSummarised w G H before = NeverSince w before ⊎ Refused (in_force w G H before)
 
--- the entries of a folder: those of its last summarise, none where there was none since its last exchange
-abbrev pub entries_by : Option ℕ → List (List Entry) → List Entry
-entries_by None tables = []
-entries_by (Some i) tables = slice_index_or tables i []
-
-abbrev pub entries_of : Which → List Asking → List (List Entry) → List Entry
-entries_of w before tables = entries_by (summarised_at w before) tables
+-- these are the entries of a folder: those of its last summarise, none where there was none since its last exchange
+pub record EntriesAre (w : Which) (before : List Asking) (tables : List (List Entry)) (es : List Entry) : Type 0 where
+  pub summarised : (i : ℕ) → SummarisedBy w before i → es ≡ slice_index_or tables i []
+  pub never : NeverSince w before → es ≡ []
 
 -- What the answer to a call must be. G and H are the graphs with which the two folders were opened, and `tables`
 -- has a list of entries for each call: that of a summarise is what belongs to it, a summary where it is accepted.
@@ -47,7 +52,8 @@ abbrev pub Rule : Graph → Graph → List Asking → List (List Entry) → List
 Rule G H before tables table (exchange w K) z = z ≡ exchanged (in_force w G H before)
 Rule G H before tables table (summarise w) z =
     (r : Result ℕ SummariseFault) × (z ≡ summarised r) × Summarised (in_force w G H before) r table
-Rule G H before tables table (entry w n) z = z ≡ entry_is (slice_get (entries_of w before tables) n)
+Rule G H before tables table (entry w n) z =
+    (es : List Entry) × (z ≡ entry_is (slice_get es n)) × EntriesAre w before tables es
 Rule G H before tables table (ask q list) z =
     (r : Answer) × (after : List ℕ) × (z ≡ asked r after)
     × Answered (λ s. IsSummarised (folder_at q s) G H before) (λ s. NotSummarised (folder_at q s) G H before)

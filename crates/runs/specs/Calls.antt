@@ -1,5 +1,6 @@
 -- Calls and answers in the subject's words: graphs by their meaning, lists by what they hold.
-use Rattle.std.specs.Prelude.{ℕ, suc, Bool, true, false, cond, List, [], ◌∷◌, ◌++◌, Some, None, vec_items, Option, Result}
+use Rattle.std.specs.Prelude.{ℕ, Bool, true, false, cond, List, [], ◌∷◌, vec_items, Option, Result}
+use Rattle.std.specs.List.{flat_map}
 use Rattle.locks.specs.declared.together.Side.{Side}
 use Rattle.locks.specs.declared.together.Side.TheVariants.{Left, Right}
 use Rattle.locks.specs.Graphs.{Graph}
@@ -71,30 +72,18 @@ put_by w (entry v n) = []
 put_by w (ask q list) = []
 put_by w (replay q ns) = []
 
-abbrev pub put_in : Which → List Asking → List Graph
-put_in w [] = []
-put_in w (c ∷ cs) = put_by w c ++ put_in w cs
-
 abbrev pub last_of : {A : Type 0} → A → List A → A
 last_of x [] = x
 last_of x (y ∷ ys) = last_of y ys
 
 -- the graph that is in a folder after these calls: its last exchange's, without one its opening's
 abbrev pub in_force : Which → Graph → Graph → List Asking → Graph
-in_force w G H cs = last_of (by_which G H w) (put_in w cs)
+in_force w G H cs = last_of (by_which G H w) (flat_map (put_by w) cs)
 
--- the place of the last summarise of a folder since its last exchange, from place n on, or else the one given
-abbrev pub noted : Which → ℕ → Asking → Option ℕ → Option ℕ
-noted w n (exchange v K) o = cond (same w v) None o
-noted w n (summarise v) o = cond (same w v) (Some n) o
-noted w n (entry v m) o = o
-noted w n (ask q list) o = o
-noted w n (replay q ns) o = o
-
-abbrev pub summarised_from : Which → ℕ → Option ℕ → List Asking → Option ℕ
-summarised_from w n o [] = o
-summarised_from w n o (c ∷ cs) = summarised_from w (suc n) (noted w n c o) cs
-
--- the place of the last summarise of a folder since its last exchange
-abbrev pub summarised_at : Which → List Asking → Option ℕ
-summarised_at w cs = summarised_from w 0 None cs
+-- a call that gives a folder other entries, or none
+abbrev pub renews : Which → Asking → Bool
+renews w (exchange v K) = same w v
+renews w (summarise v) = same w v
+renews w (entry v m) = false
+renews w (ask q list) = false
+renews w (replay q ns) = false

@@ -1,0 +1,5 @@
+mod ChainLaws
+mod PointLaws
+mod RunLaws
+mod SameLaws
+mod StandingLaws

@@ -1,0 +1,6 @@
+use Rattle.runs.proofs.SameLaws.{same_states_same_answers}
+use Rattle.runs.proofs.running.run.Goals as goal
+
+-- src/running.rt:23:1
+pub returns-clause-same : goal.returns-clause-same
+returns-clause-same g c = same_states_same_answers
