@@ -142,8 +142,8 @@ module _ {L R : Type 0} (l : L → Graph) (r : R → Graph) where
             (a.judges (of_graph (folder_at q Left) G H before ts _ _ (k (folder_at q Left))) (of_graph (folder_at q Right) G H before ts _ _ (k (folder_at q Right)))))
 
       rule : (later : List (List Entry)) (f' : Contents L) (s' : Contents R) (c : Call L R) (z : Answer L R) → Obeys l r f s c z f' s' → Rule G H before (ts ++ later) (table_of c f' s') (asking l r c) (telling l r z)
-      rule later f' s' (code.ExchangeFirst g) z o = ap (telling l r) o.0 ∙ ap exchanged (sym (k First).graph)
-      rule later f' s' (code.ExchangeSecond g) z o = ap (telling l r) o.0 ∙ ap exchanged (sym (k Second).graph)
+      rule later f' s' (code.ExchangeFirst g) z o = ap (telling l r) o.0 ∙ ap (exchanged First) (sym (k First).graph)
+      rule later f' s' (code.ExchangeSecond g) z o = ap (telling l r) o.0 ∙ ap (exchanged Second) (sym (k Second).graph)
       rule later f' s' (code.Summarise First) z o = (o.0, ap (telling l r) o.1, subst (λ K. Summarised K o.0 f'.summary) (sym (k First).graph) o.2)
       rule later f' s' (code.Summarise Second) z o = (o.0, ap (telling l r) o.1, subst (λ K. Summarised K o.0 s'.summary) (sym (k Second).graph) o.2)
       rule later f' s' (code.Entry w n) z o = (entries_in l r f s w, ap (telling l r) o.0, entries_are w G H before ts (graph_of l r f s w) (entries_in l r f s w) (k w) later)

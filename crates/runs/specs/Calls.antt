@@ -27,7 +27,7 @@ pub data Asking : Type 0 where
 
 -- an answer; that to ask has the list as it then is, that to replay the schedule
 pub data Telling : Type 0 where
-  exchanged : Graph → Telling
+  exchanged : Which → Graph → Telling
   summarised : Result ℕ SummariseFault → Telling
   entry_is : Option Entry → Telling
   asked : Result Verdict AskFault → List ℕ → Telling
@@ -42,8 +42,8 @@ asking l r (code.Ask q list) = ask q (vec_items list)
 asking l r (code.Replay q moves) = replay q (vec_items moves)
 
 abbrev pub telling : {L R : Type 0} → (L → Graph) → (R → Graph) → Answer L R → Telling
-telling l r (back.ExchangedFirst g) = exchanged (l g)
-telling l r (back.ExchangedSecond g) = exchanged (r g)
+telling l r (back.ExchangedFirst g) = exchanged First (l g)
+telling l r (back.ExchangedSecond g) = exchanged Second (r g)
 telling l r (back.Summarised x) = summarised x
 telling l r (back.Entry x) = entry_is x
 telling l r (back.Asked x list) = asked x (vec_items list)

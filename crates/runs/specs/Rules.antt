@@ -49,7 +49,7 @@ pub record EntriesAre (w : Which) (before : List Asking) (tables : List (List En
 -- What the answer to a call must be. G and H are the graphs with which the two folders were opened, and `tables`
 -- has a list of entries for each call: that of a summarise is what belongs to it, a summary where it is accepted.
 abbrev pub Rule : Graph → Graph → List Asking → List (List Entry) → List Entry → Asking → Telling → Type 0
-Rule G H before tables table (exchange w K) z = z ≡ exchanged (in_force w G H before)
+Rule G H before tables table (exchange w K) z = z ≡ exchanged w (in_force w G H before)
 Rule G H before tables table (summarise w) z =
     (r : Result ℕ SummariseFault) × (z ≡ summarised r) × Summarised (in_force w G H before) r table
 Rule G H before tables table (entry w n) z =
