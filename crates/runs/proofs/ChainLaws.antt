@@ -37,12 +37,14 @@ module _ {L R : Type 0} (l : L → Graph) (r : R → Graph) where
   abbrev pub Continues : Contents L → Contents R → List (Call L R) → List (Answer L R) → Contents L → Contents R → List (Call L R) → Type 0
   Continues f s cs zs g t rest = (ys : List (Answer L R)) (f' : Contents L) (s' : Contents R) → Obeyed g t rest ys f' s' → Obeyed f s cs (zs ++ ys) f' s'
 
-  pub goes_on : (f g g' : Contents L) (s t t' : Contents R) (cs rest : List (Call L R)) (zs : List (Answer L R)) (c : Call L R) (z : Answer L R)
-      → Continues f s cs zs g t (c ∷ rest) → Obeys l r g t c z g' t' → Continues f s cs (zs ++ z ∷ []) g' t' rest
-  goes_on f g g' s t t' cs rest zs c z k o ys f' s' x = subst (λ y. Obeyed f s cs y f' s') (sym (snoc_append zs z ys)) (k (z ∷ ys) f' s' (g', t', o, x))
+  pub goes_on : (f g g' : Contents L) (s t t' : Contents R) (cs rest rest' : List (Call L R)) (zs zs' : List (Answer L R)) (c : Call L R) (z : Answer L R)
+      → Continues f s cs zs g t rest → rest ≡ c ∷ rest' → Obeys l r g t c z g' t' → zs' ≡ zs ++ z ∷ [] → Continues f s cs zs' g' t' rest'
+  goes_on f g g' s t t' cs rest rest' zs zs' c z k e o d ys f' s' x =
+      subst (λ y. Obeyed f s cs y f' s') (sym (snoc_append zs z ys) ∙ ap (λ y. y ++ ys) (sym d)) (k (z ∷ ys) f' s' (subst (λ y. Obeyed g t y (z ∷ ys) f' s') (sym e) (g', t', o, x)))
 
-  pub ends : (f g : Contents L) (s t : Contents R) (cs : List (Call L R)) (zs : List (Answer L R)) → Continues f s cs zs g t [] → Obeyed f s cs zs g t
-  ends f g s t cs zs k = subst (λ y. Obeyed f s cs y g t) (append-nil zs) (k [] g t (refl, refl))
+  pub ends : (f g : Contents L) (s t : Contents R) (cs rest : List (Call L R)) (zs : List (Answer L R)) → Continues f s cs zs g t rest → length rest ≡ 0 → Obeyed f s cs zs g t
+  ends f g s t cs [] zs k e = subst (λ y. Obeyed f s cs y g t) (append-nil zs) (k [] g t (refl, refl))
+  ends f g s t cs (c ∷ rest) zs k e = absurd (omega arith)
 
   -- the entries that belong to a call: those that a summarise leaves
   abbrev table_of : Call L R → Contents L → Contents R → List Entry

@@ -1,11 +1,11 @@
 -- Which graph is in force after one call more, and when its folder was last summarised.
-use Rattle.std.proofs.Common.{◌≡◌, ℕ, zero, suc, ◌+◌, ◌<◌, Bool, true, false, cond, ◌⊎◌, List, [], ◌∷◌, ◌++◌, length, Some, None, Option, sym, refl, ap, ◌∙◌, subst, inl, inr, ⊎_elim, append-nil, arith}
+use Rattle.std.proofs.Common.{◌≡◌, ◌≢◌, ℕ, zero, suc, ◌+◌, ◌<◌, Bool, true, false, cond, ◌⊎◌, List, [], ◌∷◌, ◌++◌, length, Some, None, Option, sym, refl, ap, ◌∙◌, subst, inl, inr, ⊎_elim, append-nil, arith}
 use Rattle.std.specs.List.{flat_map, slice_get}
 use Rattle.std.proofs.lemmas.Grind.{flat_map-append}
 use Rattle.locks.specs.Graphs.{Graph}
 use Rattle.runs.specs.declared.calls.Which.{Which}
 use Rattle.runs.specs.declared.calls.Which.TheVariants.{First, Second}
-use Rattle.runs.specs.Rules.{SummarisedBy}
+use Rattle.runs.specs.Rules.{SummarisedBy, NoneExchanged, LastExchanged, GraphsInForceCameLast}
 use Rattle.runs.specs.Calls.{Asking, put_by, last_of, by_which, in_force, same, exchange, summarise, entry, ask, replay, renews}
 
 pub last_after : {A : Type 0} (x : A) (ys zs : List A) → last_of x (ys ++ zs) ≡ last_of (last_of x ys) zs
@@ -17,6 +17,55 @@ in_force_after w G H cs c =
     ap (last_of (by_which G H w)) (flat_map-append (put_by w) cs (c ∷ []))
     ∙ last_after (by_which G H w) (flat_map (put_by w) cs) (put_by w c ++ [])
     ∙ ap (last_of (in_force w G H cs)) (append-nil (put_by w c))
+
+-- it is that of the last exchange
+
+same_which : (v w : Which) → same w v ≡ true → v ≡ w
+same_which First First e = refl
+same_which First Second e = absurd cc
+same_which Second First e = absurd cc
+same_which Second Second e = refl
+
+same_self : (w : Which) → same w w ≡ true
+same_self First = refl
+same_self Second = refl
+
+-- a call puts its graph into the folder, or is no exchange of it
+abbrev ByCall : Which → Graph → Asking → Graph → Type 0
+ByCall w K c X = ((M : Graph) × (c ≡ exchange w M) × (X ≡ M)) ⊎ (((M : Graph) → c ≢ exchange w M) × (X ≡ K))
+
+exchanged_by : (w : Which) (K : Graph) (v : Which) (M : Graph) (b : Bool) → same w v ≡ b → ByCall w K (exchange v M) (last_of K (cond b (M ∷ []) []))
+exchanged_by w K v M true e = inl (M, ap (λ u. exchange u M) (same_which v w e), refl)
+exchanged_by w K v M false e =
+    inr ((λ N d. let p : v ≡ w = cc in let q : false ≡ true = sym e ∙ ap (same w) p ∙ same_self w in cc), refl)
+
+put_by_call : (w : Which) (K : Graph) (c : Asking) → ByCall w K c (last_of K (put_by w c))
+put_by_call w K (exchange v M) = exchanged_by w K v M (same w v) refl
+put_by_call w K (summarise v) = inr ((λ M e. cc), refl)
+put_by_call w K (entry v n) = inr ((λ M e. cc), refl)
+put_by_call w K (ask q list) = inr ((λ M e. cc), refl)
+put_by_call w K (replay q ns) = inr ((λ M e. cc), refl)
+
+none_after : (w : Which) (c : Asking) (cs : List Asking) (n m : ℕ) → m ≡ n + 1 → NoneExchanged w n cs → NoneExchanged w m (c ∷ cs)
+none_after w c cs n m s none zero M h e = omega arith
+none_after w c cs n m s none (suc i) M h e = none i M (omega arith) e
+
+none_before : (w : Which) (c : Asking) (cs : List Asking) → ((M : Graph) → c ≢ exchange w M) → NoneExchanged w 0 cs → NoneExchanged w 0 (c ∷ cs)
+none_before w c cs other none zero M h e = other M (let p : c ≡ exchange w M = cc in p)
+none_before w c cs other none (suc i) M h e = none i M (omega arith) e
+
+last_exchanged : (w : Which) (K : Graph) (cs : List Asking) → LastExchanged w K cs (last_of K (flat_map (put_by w) cs))
+last_exchanged w K [] = inr ((λ i M h e. cc), refl)
+last_exchanged w K (c ∷ cs) =
+    subst (LastExchanged w K (c ∷ cs)) (sym (last_after K (put_by w c) (flat_map (put_by w) cs)))
+    (⊎_elim (λ p. inl (suc p.0, p.1, none_after w c cs (p.0 + 1) (suc p.0 + 1) (omega arith) p.2)) (λ p. by_first p.0 p.1 (put_by_call w K c)) (last_exchanged w (last_of K (put_by w c)) cs))
+  where
+    by_first : {X : Graph} → NoneExchanged w 0 cs → X ≡ last_of K (put_by w c) → ByCall w K c (last_of K (put_by w c)) → LastExchanged w K (c ∷ cs) X
+    by_first none e (inl (M, d, g)) = inl (zero, ap {B = Option Asking} Some (d ∙ ap (exchange w) (sym (e ∙ g))), none_after w c cs 0 1 (omega arith) none)
+    by_first none e (inr (other, g)) = inr (none_before w c cs other none, e ∙ g)
+
+pub graphs_in_force_came_last : GraphsInForceCameLast
+graphs_in_force_came_last w G H cs = last_exchanged w (by_which G H w) cs
 
 -- the place of the last summarise of a folder since its last exchange, from place n on, or else the one given
 abbrev pub noted : Which → ℕ → Asking → Option ℕ → Option ℕ
@@ -45,12 +94,6 @@ summarised_after w cs c = summarised_after_from w 0 None cs c ∙ ap (λ m. note
 
 -- that place is the rules' own
 
-same_which : (v w : Which) → same w v ≡ true → v ≡ w
-same_which First First e = refl
-same_which First Second e = absurd cc
-same_which Second First e = absurd cc
-same_which Second Second e = refl
-
 -- no call of these gives the folder other entries
 abbrev Quiet : Which → List Asking → Type 0
 Quiet w cs = (j : ℕ) (c : Asking) → slice_get cs j ≡ Some c → renews w c ≡ false
@@ -65,10 +108,6 @@ noted_quiet w n (replay q ns) o e = refl
 quiet_from : (w : Which) (n : ℕ) (o : Option ℕ) (cs : List Asking) → Quiet w cs → summarised_from w n o cs ≡ o
 quiet_from w n o [] q = refl
 quiet_from w n o (c ∷ cs) q = quiet_from w (suc n) (noted w n c o) cs (λ j d e. q (suc j) d e) ∙ noted_quiet w n c o (q 0 c refl)
-
-same_self : (w : Which) → same w w ≡ true
-same_self First = refl
-same_self Second = refl
 
 after_first : (w : Which) (c : Asking) (cs : List Asking) (i : ℕ) → SummarisedBy w (c ∷ cs) (suc i) → SummarisedBy w cs i
 after_first w c cs i s = record { call = s.call; last = λ j d h e. s.last (suc j) d (omega arith) e }

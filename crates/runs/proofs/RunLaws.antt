@@ -97,9 +97,9 @@ module _ {L R : Type 0} (l : L → Graph) (r : R → Graph) where
     left_entries : (w : Which) (G H : Graph) (cs : List Asking) (ts : List (List Entry)) (K : Graph) (es : List Entry) → Kept w G H cs ts K es → EntriesAre w cs ts es
     left_entries w G H cs ts K es k = subst (λ x. EntriesAre w cs x es) (append-nil ts) (entries_are w G H cs ts K es k [])
 
-    pub run_right : (g : L) (h : R) (cs : List (Call L R)) (ran : Ran L R)
+    opened_right : (g : L) (h : R) (cs : List (Call L R)) (ran : Ran L R)
         → Obeyed l r (unsummarised g) (unsummarised h) cs (vec_items ran.answers) (contents ran.first) (contents ran.second) → RunRight l r g h cs ran
-    run_right g h cs ran o =
+    opened_right g h cs ran o =
         let y = along l r (l g) (r h) cs (vec_items ran.answers) [] [] (unsummarised g) (contents ran.first) (unsummarised h) (contents ran.second) refl (begun g h) o in
         record {
           tables = y.tables;
@@ -110,3 +110,10 @@ module _ {L R : Type 0} (l : L → Graph) (r : R → Graph) where
           first_entries = left_entries First (l g) (r h) (map (asking l r) cs) y.tables (l (contents ran.first).graph) (contents ran.first).summary (y.stands First);
           second_entries = left_entries Second (l g) (r h) (map (asking l r) cs) y.tables (r (contents ran.second).graph) (contents ran.second).summary (y.stands Second);
         }
+
+    pub run_right : (f : Contents L) (s : Contents R) (cs : List (Call L R)) (ran : Ran L R) → f ≡ unsummarised f.graph → s ≡ unsummarised s.graph
+        → Obeyed l r f s cs (vec_items ran.answers) (contents ran.first) (contents ran.second) → RunRight l r f.graph s.graph cs ran
+    run_right f s cs ran e d o =
+        opened_right f.graph s.graph cs ran
+        (subst (λ x. Obeyed l r x (unsummarised s.graph) cs (vec_items ran.answers) (contents ran.first) (contents ran.second)) e
+        (subst (λ y. Obeyed l r f y cs (vec_items ran.answers) (contents ran.first) (contents ran.second)) d o))

@@ -1,5 +1,5 @@
 -- What each answer must be, from the calls before it and the graphs' meanings.
-use Rattle.std.specs.Prelude.{◌≡◌, ℕ, ◌<◌, false, ◌⊎◌, List, [], length, take, Some, Err, Result, slice_index_or}
+use Rattle.std.specs.Prelude.{◌≡◌, ◌≢◌, ℕ, ◌+◌, ◌<◌, ◌≤◌, false, ◌⊎◌, List, [], length, take, Some, Err, Result, slice_index_or}
 use Rattle.std.specs.List.{slice_get}
 use Rattle.locks.specs.declared.together.Side.TheVariants.{Left, Right}
 use Rattle.locks.specs.Decomposition.{Faultless}
@@ -15,7 +15,19 @@ use Rattle.search.specs.Summarising.{SummariseSays, Summarised}
 use Rattle.pairs.specs.Answers.{Answer, Answered}
 use Rattle.runs.specs.declared.calls.Question.{Question}
 use Rattle.runs.specs.declared.calls.Which.{Which}
-use Rattle.runs.specs.Calls.{Asking, exchange, summarise, entry, ask, replay, Telling, exchanged, summarised, entry_is, asked, replayed, folder_at, in_force, renews}
+use Rattle.runs.specs.Calls.{Asking, exchange, summarise, entry, ask, replay, Telling, exchanged, summarised, entry_is, asked, replayed, by_which, folder_at, in_force, renews}
+
+-- from place n on, no call exchanges the folder's graph
+abbrev pub NoneExchanged : Which → ℕ → List Asking → Type 0
+NoneExchanged w n cs = (i : ℕ) (K : Graph) → n ≤ i → slice_get cs i ≢ Some (exchange w K)
+
+-- the graph of a folder's last exchange, and without one that of its opening
+abbrev pub LastExchanged : Which → Graph → List Asking → Graph → Type 0
+LastExchanged w opening cs K =
+    ((i : ℕ) × (slice_get cs i ≡ Some (exchange w K)) × NoneExchanged w (i + 1) cs) ⊎ (NoneExchanged w 0 cs × (K ≡ opening))
+
+abbrev pub GraphsInForceCameLast : Type 0
+GraphsInForceCameLast = (w : Which) (G H : Graph) (cs : List Asking) → LastExchanged w (by_which G H w) cs (in_force w G H cs)
 
 -- no refusal of summarise applies to the graph, or one does
 abbrev pub Accepted : Graph → Type 0

@@ -3,7 +3,7 @@ ghost use Rattle.std.specs.Prelude.{◌≡◌};
 ghost use Rattle.search.specs.Folders.{contents, unsummarised};
 ghost use Rattle.runs.specs.Scripts.{written};
 ghost use Rattle.runs.specs.Running.{RunRight};
-ghost use Rattle.runs.specs.Rules.{SameStatesSameAnswers};
+ghost use Rattle.runs.specs.Rules.{GraphsInForceCameLast, SameStatesSameAnswers};
 
 use crate::calls::Answer;
 use crate::obeying::obey;
@@ -28,6 +28,7 @@ pub fn run<L: ThreadGraph, R: ThreadGraph>(
     script: Script<L, R>,
 ) -> Ran<L, R>
     ensures right { RunRight L.ThreadGraph.meaning R.ThreadGraph.meaning first second (written script).calls result }
+    ensures in_force { GraphsInForceCameLast }
     ensures same { SameStatesSameAnswers }
 {
     make_calls(

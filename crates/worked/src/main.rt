@@ -1,6 +1,7 @@
 // Summaries and replays of worked threads. With the argument `times`, how long those of the heavy ones take.
 #![tactic(auto)]
 
+mod sequence;
 mod threads;
 
 use locks::sets::LockSet;
@@ -29,7 +30,8 @@ fn run(rt: &HostRuntime) -> anyhow::Result<()> {
     count(rt, "taken twice", &threads::TAKEN_TWICE)?;
     heavy(rt)?;
     entries_at(rt, &threads::TWO_WAYS, 5)?;
-    replays(rt)
+    replays(rt)?;
+    sequence::sequence(rt)
 }
 
 fn replays(rt: &HostRuntime) -> anyhow::Result<()> {
