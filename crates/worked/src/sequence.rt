@@ -67,7 +67,8 @@ fn with_summaries(heap: Global, calls: &mut Calls) -> anyhow::Result<()> {
     calls.push(ask(heap, first(3), second(3), 4)?)?;
     calls.push(ask(heap, first(2), second(1), 4)?)?;
     calls.push(ask(heap, second(1), first(3), 4)?)?;
-    calls.push(replay(heap, first(3), second(1), &[256, 0])?)?;
+    calls.push(replay(heap, first(3), second(1), &[0, 0, 16])?)?;
+    calls.push(replay(heap, first(3), second(1), &[0, 0, 256])?)?;
     calls.push(replay(heap, first(3), second(1), &[0, 0])?)?;
     calls.push(Call::Entry(Which::Second, 3))?;
     calls.push(Call::Entry(Which::Second, 4))?;

@@ -1,5 +1,5 @@
 -- Tests for a replay, for the states at a location, and for the pairs of two summaries that agree.
-use Rattle.std.proofs.Common.{◌≡◌, ℕ, ◌+◌, ◌<◌, Bool, true, false, not, ◌&&◌, ◌||◌, eqb, ltb, leb, List, [], ◌∷◌, length, Ok, sym, refl, ap, ◌∙◌, subst, ap₂, inl, inr, ⊎_elim}
+use Rattle.std.proofs.Common.{◌≡◌, ℕ, ◌+◌, ◌<◌, Bool, true, false, not, ◌&&◌, ◌||◌, eqb, ltb, leb, List, [], ◌∷◌, length, Ok, Err, sym, refl, ap, ◌∙◌, subst, ap₂, inl, inr, ⊎_elim}
 use Rattle.std.proofs.lemmas.Bool.{and_parts, and_from, or_cases, both_ways, not_from_false, eqb-true, eq-eqb, leb-true, ltb-true}
 use Rattle.std.specs.List.{AllByRecursion}
 use Rattle.locks.specs.Agreement.{bars, Unbarred}
@@ -8,7 +8,7 @@ use Rattle.locks.specs.declared.held.Held.{Held}
 use Rattle.locks.specs.declared.moves.Move.{Move}
 use Rattle.locks.specs.declared.steps.Step.{Step}
 use Rattle.locks.specs.declared.together.Configuration.{Configuration}
-use Rattle.locks.specs.Graphs.{Graph, step_at}
+use Rattle.locks.specs.Graphs.{Graph, step_at, locations}
 use Rattle.locks.specs.Moves.{move_named}
 use Rattle.locks.specs.Schedules.{Replays, Runs, from_starts, graph_of}
 use Rattle.locks.specs.Shortest.{Judged, NoSchedule}
@@ -17,6 +17,10 @@ use Rattle.locks.specs.Together.{position_of, advance}
 use Rattle.locks.specs.Walks.{Distance}
 use Rattle.locks.proofs.Distances.{reached_states_have_distances_lem, one_distance}
 use Rattle.locks.proofs.LeastSum.{shortest_is_the_least_sum_lem, no_shorter}
+use Rattle.pairs.specs.declared.answers.AskFault.TheVariants.{TooShort}
+use Rattle.pairs.specs.Answers as pair
+use Rattle.pairs.specs.Answers.{AskSays, longest}
+use Rattle.pairs.proofs.AskLaws.{one_judgement}
 use Rattle.readers.specs.declared.listing.command.Command.{Command}
 use Rattle.readers.specs.Graph.{listing_graph}
 use Rattle.readers.specs.Reading.{listing}
@@ -24,7 +28,7 @@ use Rattle.readers.specs.GraphLaws.{listing_bounded}
 use Rattle.readers.proofs.Laws.{listings}
 use Rattle.search.specs.declared.entries.Entry.{Entry}
 use Rattle.search.specs.Summaries.{state_in, ListedAt, Summary}
-use Rattle.worked_threads.specs.Worked.{Shortest, TwoAt}
+use Rattle.worked_threads.specs.Worked.{Shortest, AskRefuses, TwoAt}
 use Rattle.worked_threads.proofs.Summing.{count_test, count_answer}
 use Rattle.worked_threads.proofs.Tests.{implies, implies_says, every, every_says, some, some_says, on, on_says, same_state, state_says}
 
@@ -196,4 +200,34 @@ two_at G es s l σ τ d e t =
           (λ m. inl (sym x.3 ∙ state_says (state_in k) σ m))
           (λ m. inr (sym x.3 ∙ state_says (state_in k) τ m))
           (or_cases (same_state (state_in k) σ) (same_state (state_in k) τ) found);
+    }
+
+-- a list that is too short for a shortest schedule
+
+abbrev pub short_test : Graph → Graph → ℕ → ℕ → ℕ → List ℕ → Bool
+short_test G H a b k ns = ltb a (locations G) && (ltb b (locations H) && (ltb k (length ns) && leb (length ns) longest))
+
+pub too_short : (G H : Graph) (a b k : ℕ) (ns : List ℕ) → Shortest G H a b ns → short_test G H a b k ns ≡ true → AskRefuses G H a b k 18 (length ns)
+too_short G H a b k ns s t =
+    let p = and_parts (ltb a (locations G)) (ltb b (locations H) && (ltb k (length ns) && leb (length ns) longest)) t in
+    let q = and_parts (ltb b (locations H)) (ltb k (length ns) && leb (length ns) longest) p.1 in
+    let r = and_parts (ltb k (length ns)) (leb (length ns) longest) q.1 in
+    let says : AskSays (λ s. Unit {0}) (λ s. ⊥) (NoSchedule G H a b) (pair.Shortest G H a b) G H a b k (Err (TooShort (length ns))) = (
+      tt,
+      tt,
+      (ltb-true a (locations G) p.0, ltb-true b (locations H) q.0),
+      record { least = record { schedule = ns; replays = s.replays; long = refl; none_shorter = s.none_shorter }; not_long = leb-true (length ns) longest r.1 },
+      ltb-true k (length ns) r.0,
+    ) in
+    record {
+      fault = TooShort (length ns);
+      answer = λ list e.
+          let here = subst (λ n. AskSays (λ s. Unit {0}) (λ s. ⊥) (NoSchedule G H a b) (pair.Shortest G H a b) G H a b n (Err (TooShort (length ns)))) (sym e) says in
+          record {
+            says = here;
+            only = λ x f. one_judgement (λ s. Unit {0}) (λ s. ⊥) G H a b (length list) (λ s n h. n) (Err (TooShort (length ns))) x here f;
+            moves = tt;
+            list = refl;
+          };
+      refusal = refl;
     }

@@ -9,7 +9,7 @@ use Rattle.search.specs.declared.entries.Entry.{Entry}
 use Rattle.worked_threads.specs.Threads.{inner_one, inner_zero, two_ways, outer_given_first, five_taken, four_taken, given_untaken, taken_twice}
 use Rattle.worked_threads.specs.Worked.{holding_zero, WorkedThreadsComeOut}
 use Rattle.worked_threads.proofs.Entries.{entries}
-use Rattle.worked_threads.proofs.Pairs.{Thread, summary, shortest, never, two_at}
+use Rattle.worked_threads.proofs.Pairs.{Thread, summary, shortest, never, two_at, too_short}
 use Rattle.worked_threads.proofs.Summing.{counted, nesting_refuses, depth_refuses}
 
 -- what the bytes mean
@@ -49,6 +49,11 @@ worked_threads_come_out_lem =
     record {
       both_starts = (commands inner_one, refl, (commands inner_zero, refl, shortest inner_one_read inner_zero_read 0 0 [] refl));
       left_first = (commands inner_one, refl, (commands inner_zero, refl, shortest inner_one_read inner_zero_read 3 1 (0 ∷ 0 ∷ 0 ∷ 256 ∷ []) refl));
+      left_first_in_a_short_list = (
+        commands inner_one,
+        refl,
+        (commands inner_zero, refl, too_short (graph inner_one) (graph inner_zero) 3 1 3 (0 ∷ 0 ∷ 0 ∷ 256 ∷ []) (shortest inner_one_read inner_zero_read 3 1 (0 ∷ 0 ∷ 0 ∷ 256 ∷ []) refl) refl),
+      );
       right_first = (commands inner_one, refl, (commands inner_zero, refl, shortest inner_one_read inner_zero_read 1 3 (256 ∷ 256 ∷ 256 ∷ 0 ∷ []) refl));
       never_by_histories = (commands inner_one, refl, (commands inner_zero, refl, never inner_one_read inner_zero_read 3 3 refl));
       never_with_a_lock_in_common = (commands inner_one, refl, (commands inner_zero, refl, never inner_one_read inner_zero_read 2 1 refl));

@@ -1,7 +1,7 @@
 -- What the definitions yield for the worked threads.
 use Rattle.std.specs.Prelude.{◌≡◌, ℕ, ◌≤◌, ◌⊎◌, List, [], ◌∷◌, length, Some, Ok, Err}
 use Rattle.std.specs.List.{slice_get, AllByRecursion}
-use Rattle.locks.specs.declared.refusals.Part.TheVariants.{Summarise}
+use Rattle.locks.specs.declared.refusals.Part.TheVariants.{Summarise, Ask}
 use Rattle.locks.specs.declared.sets.LockSet.{LockSet}
 use Rattle.locks.specs.Graphs.{Graph}
 use Rattle.locks.specs.Schedules.{Replays}
@@ -9,6 +9,8 @@ use Rattle.locks.specs.Sets.{none, add}
 use Rattle.locks.specs.Shortest.{NoSchedule}
 use Rattle.locks.specs.States.{State}
 use Rattle.locks.specs.Walks.{Reached, Distance}
+use Rattle.pairs.specs.declared.answers.AskFault.{AskFault}
+use Rattle.pairs.specs.Answers.{ask_refusal, Answered}
 use Rattle.readers.specs.declared.listing.command.Command.{Command}
 use Rattle.readers.specs.Graph.{listing_graph}
 use Rattle.readers.specs.Reading.{listing}
@@ -47,6 +49,13 @@ pub record Refuses (G : Graph) (number place : ℕ) : Type 0 where
   pub answer : Summarised G (Err fault) []
   pub refusal : summarise_refusal fault ≡ record { number = number; place = place; part = Summarise }
 
+-- where both threads are summarised, ask answers the refusal with this number and place to a list of k places,
+-- whatever stands in it
+pub record AskRefuses (G H : Graph) (a b k number place : ℕ) : Type 0 where
+  pub fault : AskFault
+  pub answer : (list : List ℕ) → length list ≡ k → Answered (λ s. Unit {0}) (λ s. ⊥) G H a b list (Err fault) list
+  pub refusal : ask_refusal fault ≡ record { number = number; place = place; part = Ask }
+
 -- lock 0 alone is held, with this history
 abbrev pub holding_zero : ℕ → LockSet → State
 holding_zero l history = record { location = l; held = record { lock = 0; history = history } ∷ [] }
@@ -60,6 +69,7 @@ pub record TwoAt (G : Graph) (l : ℕ) (σ τ : State) (d e : ℕ) : Type 0 wher
 pub record WorkedThreadsComeOut : Type 0 where
   pub both_starts : OfThreads inner_one inner_zero (λ G H. Shortest G H 0 0 [])
   pub left_first : OfThreads inner_one inner_zero (λ G H. Shortest G H 3 1 (0 ∷ 0 ∷ 0 ∷ 256 ∷ []))
+  pub left_first_in_a_short_list : OfThreads inner_one inner_zero (λ G H. AskRefuses G H 3 1 3 18 4)
   pub right_first : OfThreads inner_one inner_zero (λ G H. Shortest G H 1 3 (256 ∷ 256 ∷ 256 ∷ 0 ∷ []))
   pub never_by_histories : OfThreads inner_one inner_zero (λ G H. NoSchedule G H 3 3)
   pub never_with_a_lock_in_common : OfThreads inner_one inner_zero (λ G H. NoSchedule G H 2 1)
