@@ -1,8 +1,10 @@
-// Reads what a replay is about from standard input, and prints the replay move by move.
+// Reads what a replay is about from standard input, and prints the replay move by move and then the verdict on the pair.
 #![tactic(auto)]
 
 use graph::ThreadGraph;
 use locks::moves::Move;
+use pairs::answers::Verdict;
+use pairs::asking::{MOST_MOVES, ask};
 use readers::listing::Listing;
 use search::folders::{Folder, Room};
 use search::threads::{Pair, TwoThreads};
@@ -32,8 +34,12 @@ fn run(rt: &HostRuntime) -> anyhow::Result<()> {
     };
     let threads = TwoThreads::new(&left, &right);
     trace(rt, &threads, task.moves())?;
-    conclude(rt, &threads, &task)?;
-    Ok(())
+    let pair = Pair {
+        left: task.left_location(),
+        right: task.right_location(),
+    };
+    conclude(rt, &threads, pair, task.moves())?;
+    judge(rt, &threads, pair)
 }
 
 // The folder of one thread, or nothing where its listing is refused, which is printed.
@@ -76,13 +82,9 @@ fn trace(
 fn conclude(
     rt: &HostRuntime,
     threads: &TwoThreads<Listing, Listing>,
-    task: &Task,
+    pair: Pair,
+    moves: &[u16],
 ) -> io::Result<()> {
-    let pair = Pair {
-        left: task.left_location(),
-        right: task.right_location(),
-    };
-    let moves = task.moves();
     match threads.replay(pair, moves) {
         Ok(()) => {
             println!(rt;
@@ -94,4 +96,27 @@ fn conclude(
         }
         Err(fault) => println!(rt; "{}", fault.refusal()),
     }
+}
+
+// Whether both locations can be occupied at one time, with a shortest schedule.
+fn judge(
+    rt: &HostRuntime,
+    threads: &TwoThreads<Listing, Listing>,
+    pair: Pair,
+) -> anyhow::Result<()> {
+    let mut list = vec![in rt.alloc(); 0; MOST_MOVES]?;
+    match ask(threads, pair, &mut list) {
+        Ok(Verdict::Never) => println!(rt; "{} {} never", pair.left, pair.right)?,
+        Ok(Verdict::Reached(length)) => {
+            print!(rt; "{} {} reached {length}:", pair.left, pair.right)?;
+            for number in list.iter().take(length) {
+                if let Ok(made) = Move::try_from(*number) {
+                    print!(rt; " {made}")?;
+                }
+            }
+            println!(rt; "")?;
+        }
+        Err(fault) => println!(rt; "{}", fault.refusal())?,
+    }
+    Ok(())
 }
