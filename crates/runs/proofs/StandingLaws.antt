@@ -7,12 +7,12 @@ use Rattle.locks.specs.States.{beginning}
 use Rattle.search.specs.declared.entries.Entry.{Entry}
 use Rattle.search.specs.declared.faults.SummariseFault.{SummariseFault}
 use Rattle.search.specs.Summaries.{Summary}
-use Rattle.search.specs.Summarising.{Summarised}
+use Rattle.search.specs.Summarising.{Accepted, Summarised}
 use Rattle.search.proofs.SummaryLaws.{accepted_not_refused}
 use Rattle.pairs.specs.Asking.{OfGraph}
-use Rattle.runs.specs.declared.calls.Which.{Which}
-use Rattle.runs.specs.Calls.{Asking, put_by, last_of, in_force}
-use Rattle.runs.specs.Rules.{Accepted, Refused, NeverSince, IsSummarised, NotSummarised, EntriesAre}
+use Rattle.runs.specs.declared.calls.WhichFolder.{WhichFolder}
+use Rattle.runs.specs.Calls.{CallMeaning, put_by, last_of, in_force}
+use Rattle.runs.specs.Rules.{SomeRefusal, NeverSince, IsSummarised, NotSummarised, EntriesAre}
 use Rattle.runs.proofs.PointLaws.{noted, summarised_at, in_force_after, summarised_after, last_is_noted, noted_is_last}
 
 -- never summarised since the graph came, or by its last summarise
@@ -26,7 +26,7 @@ entries_by None tables = []
 entries_by (Some i) tables = slice_index_or tables i []
 
 -- these are the folder's graph and entries after the calls, to which these tables belong
-pub record Kept (w : Which) (G H : Graph) (before : List Asking) (tables : List (List Entry)) (K : Graph) (es : List Entry) : Type 0 where
+pub record Kept (w : WhichFolder) (G H : Graph) (before : List CallMeaning) (tables : List (List Entry)) (K : Graph) (es : List Entry) : Type 0 where
   pub graph : in_force w G H before ≡ K
   pub stands : Standing (summarised_at w before) K es
   pub entries : (later : List (List Entry)) → entries_by (summarised_at w before) (tables ++ later) ≡ es
@@ -46,42 +46,42 @@ no_entries es e h = let l = ap length e in omega arith
 -- With entries exactly where the calls say that it is summarised. A graph is accepted by summarise or refused.
 
 has_entries : (K : Graph) (i : ℕ) (es : List Entry) → Standing (Some i) K es → Accepted K → 0 < length es
-has_entries K i es (Ok n, s) a = some_entries K es s.says.2
-has_entries K i es (Err f, s) a = absurd (accepted_not_refused K f a.0 a.1 s.says.0)
+has_entries K i es (Ok n, s) a = some_entries K es s.says.1
+has_entries K i es (Err f, s) a = absurd (accepted_not_refused K f a s.says.0)
 
 ready_by : (K : Graph) (es : List Entry) (o : Option ℕ) → Standing o K es → 0 < length es → ((i : ℕ) × (o ≡ Some i)) × Accepted K
 ready_by K es None s h = absurd (no_entries es s h)
-ready_by K es (Some i) (Ok n, s) h = ((i, refl), (s.says.0, s.says.1))
+ready_by K es (Some i) (Ok n, s) h = ((i, refl), s.says.0)
 ready_by K es (Some i) (Err f, s) h = absurd (no_entries es s.says.1 h)
 
-unready_by : (K : Graph) (es : List Entry) (o : Option ℕ) → Standing o K es → es ≡ [] → (o ≡ None) ⊎ Refused K
+unready_by : (K : Graph) (es : List Entry) (o : Option ℕ) → Standing o K es → es ≡ [] → (o ≡ None) ⊎ SomeRefusal K
 unready_by K es None s e = inl refl
-unready_by K es (Some i) (Ok n, s) e = absurd (no_entries es e (some_entries K es s.says.2))
-unready_by K es (Some i) (Err f, s) e = inr (f, (s.says.0, refl))
+unready_by K es (Some i) (Ok n, s) e = absurd (no_entries es e (some_entries K es s.says.1))
+unready_by K es (Some i) (Err f, s) e = inr (f, s.says.0)
 
 there_by : (K : Graph) (es : List Entry) (o : Option ℕ) → Standing o K es → (i : ℕ) → o ≡ Some i → Accepted K → 0 < length es
 there_by K es None s i e a = absurd (none_some i None refl e)
 there_by K es (Some j) s i e a = has_entries K j es s a
 
-gone_by : (K : Graph) (es : List Entry) (o : Option ℕ) → Standing o K es → (o ≡ None) ⊎ Refused K → es ≡ []
+gone_by : (K : Graph) (es : List Entry) (o : Option ℕ) → Standing o K es → (o ≡ None) ⊎ SomeRefusal K → es ≡ []
 gone_by K es None s n = s
 gone_by K es (Some i) (Ok m, s) (inl e) = absurd (none_some i (Some i) e refl)
-gone_by K es (Some i) (Ok m, s) (inr r) = absurd (accepted_not_refused K r.0 s.says.0 s.says.1 r.1.0)
+gone_by K es (Some i) (Ok m, s) (inr r) = absurd (accepted_not_refused K r.0 s.says.0 r.1)
 gone_by K es (Some i) (Err f, s) n = s.says.1
 
 summary_by : (K : Graph) (es : List Entry) (o : Option ℕ) → Standing o K es → OfGraph K es
 summary_by K es None s h = absurd (no_entries es s h)
-summary_by K es (Some i) (Ok n, s) h = (s.says.1, s.says.2)
+summary_by K es (Some i) (Ok n, s) h = (s.says.0.1, s.says.1)
 summary_by K es (Some i) (Err f, s) h = absurd (no_entries es s.says.1 h)
 
-none_by : (w : Which) (before : List Asking) → NeverSince w before → (o : Option ℕ) → summarised_at w before ≡ o → o ≡ None
+none_by : (w : WhichFolder) (before : List CallMeaning) → NeverSince w before → (o : Option ℕ) → summarised_at w before ≡ o → o ≡ None
 none_by w before a None e = refl
 none_by w before a (Some i) e = absurd (a i (noted_is_last w before i e))
 
-never_none : (w : Which) (before : List Asking) → NeverSince w before → summarised_at w before ≡ None
+never_none : (w : WhichFolder) (before : List CallMeaning) → NeverSince w before → summarised_at w before ≡ None
 never_none w before a = none_by w before a (summarised_at w before) refl
 
-module _ (w : Which) (G H : Graph) (before : List Asking) (tables : List (List Entry)) (K : Graph) (es : List Entry) (k : Kept w G H before tables K es) where
+module _ (w : WhichFolder) (G H : Graph) (before : List CallMeaning) (tables : List (List Entry)) (K : Graph) (es : List Entry) (k : Kept w G H before tables K es) where
   pub ready : 0 < length es → IsSummarised w G H before
   ready h = let r = ready_by K es (summarised_at w before) k.stands h in ((r.0.0, noted_is_last w before r.0.0 r.0.1), subst Accepted (sym k.graph) r.1)
 
@@ -89,12 +89,12 @@ module _ (w : Which) (G H : Graph) (before : List Asking) (tables : List (List E
   there s = there_by K es (summarised_at w before) k.stands s.0.0 (last_is_noted w before s.0.0 s.0.1) (subst Accepted k.graph s.1)
 
   pub unready : es ≡ [] → NotSummarised w G H before
-  unready e = subst (λ x. NeverSince w before ⊎ Refused x) (sym k.graph)
+  unready e = subst (λ x. NeverSince w before ⊎ SomeRefusal x) (sym k.graph)
       (⊎_elim (λ n. inl (λ i s. none_some i (summarised_at w before) n (last_is_noted w before i s))) inr (unready_by K es (summarised_at w before) k.stands e))
 
   pub gone : NotSummarised w G H before → es ≡ []
   gone n = gone_by K es (summarised_at w before) k.stands
-      (⊎_elim (λ a. inl (never_none w before a)) inr (subst (λ x. NeverSince w before ⊎ Refused x) k.graph n))
+      (⊎_elim (λ a. inl (never_none w before a)) inr (subst (λ x. NeverSince w before ⊎ SomeRefusal x) k.graph n))
 
   pub of_graph : OfGraph K es
   of_graph = summary_by K es (summarised_at w before) k.stands
@@ -116,7 +116,7 @@ pub snoc_append : {A : Type 0} (xs : List A) (x : A) (ys : List A) → (xs ++ x 
 snoc_append [] x ys = refl
 snoc_append (z ∷ xs) x ys = ap (λ zs. z ∷ zs) (snoc_append xs x ys)
 
-module _ (w : Which) (G H : Graph) (before : List Asking) (tables : List (List Entry)) (K : Graph) (es : List Entry) (k : Kept w G H before tables K es) (c : Asking) (t : List Entry) where
+module _ (w : WhichFolder) (G H : Graph) (before : List CallMeaning) (tables : List (List Entry)) (K : Graph) (es : List Entry) (k : Kept w G H before tables K es) (c : CallMeaning) (t : List Entry) where
   abbrev After : Graph → List Entry → Type 0
   After K' es' = Kept w G H (before ++ c ∷ []) (tables ++ t ∷ []) K' es'
 

@@ -7,9 +7,9 @@ use crate::calls::{Answer, Call};
 
 // Up to `most` calls. All the memory that they and their answers need is had when the script is made.
 #[derive(Drop)]
-pub struct Script<L, R> {
-    pub(crate) calls: Vec<Call<L, R>>,
-    pub(crate) answers: Vec<Answer<L, R>>,
+pub struct Script<A, B> {
+    pub(crate) calls: Vec<Call<A, B>>,
+    pub(crate) answers: Vec<Answer<A, B>>,
     pub(crate) most: usize,
     ghost few: { vec_len calls ≤ most },
     ghost reserved: { (most ≤ vec_capacity calls) × (most ≤ vec_capacity answers) },

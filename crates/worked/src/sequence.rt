@@ -3,7 +3,7 @@ use crate::threads;
 use graph::ThreadGraph;
 use pairs::answers::Verdict;
 use readers::listing::Listing;
-use runs::calls::{Answer, Call, Question, Site, Which};
+use runs::calls::{Answer, Call, Question, Site, WhichFolder};
 use runs::running::run;
 use runs::scripts::Script;
 use search::folders::Room;
@@ -49,11 +49,11 @@ type Calls = Vec<Call<Listing, Listing>>;
 
 fn before_summaries(heap: Global, calls: &mut Calls) -> anyhow::Result<()> {
     calls.push(ask(heap, first(9), second(1), 4)?)?;
-    calls.push(Call::Entry(Which::First, 0))?;
+    calls.push(Call::Entry(WhichFolder::First, 0))?;
     calls.push(replay(heap, first(3), second(1), &[0, 0, 0, 256])?)?;
-    calls.push(Call::Summarise(Which::First))?;
+    calls.push(Call::Summarise(WhichFolder::First))?;
     calls.push(ask(heap, first(9), second(1), 4)?)?;
-    calls.push(Call::Summarise(Which::Second))?;
+    calls.push(Call::Summarise(WhichFolder::Second))?;
     Ok(())
 }
 
@@ -70,8 +70,8 @@ fn with_summaries(heap: Global, calls: &mut Calls) -> anyhow::Result<()> {
     calls.push(replay(heap, first(3), second(1), &[0, 0, 16])?)?;
     calls.push(replay(heap, first(3), second(1), &[0, 0, 256])?)?;
     calls.push(replay(heap, first(3), second(1), &[0, 0])?)?;
-    calls.push(Call::Entry(Which::Second, 3))?;
-    calls.push(Call::Entry(Which::Second, 4))?;
+    calls.push(Call::Entry(WhichFolder::Second, 3))?;
+    calls.push(Call::Entry(WhichFolder::Second, 4))?;
     Ok(())
 }
 
@@ -86,30 +86,30 @@ fn on_one_folder(heap: Global, calls: &mut Calls) -> anyhow::Result<()> {
 
 fn after_exchanges(heap: Global, calls: &mut Calls) -> anyhow::Result<()> {
     calls.push(Call::ExchangeFirst(listing(heap, &threads::TWO_WAYS)?))?;
-    calls.push(Call::Entry(Which::First, 0))?;
+    calls.push(Call::Entry(WhichFolder::First, 0))?;
     calls.push(ask(heap, first(5), second(3), 5)?)?;
-    calls.push(Call::Summarise(Which::First))?;
+    calls.push(Call::Summarise(WhichFolder::First))?;
     calls.push(ask(heap, first(5), second(3), 5)?)?;
     calls.push(replay(heap, first(5), second(3), &[256, 256, 256, 0, 1])?)?;
     calls.push(Call::ExchangeSecond(listing(heap, &threads::OUTER_GIVEN_FIRST)?))?;
-    calls.push(Call::Summarise(Which::Second))?;
+    calls.push(Call::Summarise(WhichFolder::Second))?;
     calls.push(ask(heap, first(5), second(3), 5)?)?;
     calls.push(Call::ExchangeSecond(listing(heap, &threads::FIVE_TAKEN)?))?;
-    calls.push(Call::Summarise(Which::Second))?;
+    calls.push(Call::Summarise(WhichFolder::Second))?;
     calls.push(ask(heap, second(0), first(0), 5)?)?;
     Ok(())
 }
 
 fn first(location: u32) -> Site {
     Site {
-        folder: Which::First,
+        folder: WhichFolder::First,
         location,
     }
 }
 
 fn second(location: u32) -> Site {
     Site {
-        folder: Which::Second,
+        folder: WhichFolder::Second,
         location,
     }
 }
@@ -143,10 +143,10 @@ fn listing(heap: Global, bytes: &[u8]) -> anyhow::Result<Listing> {
     Ok(listing)
 }
 
-fn folder_name(which: Which) -> &'static str {
+fn folder_name(which: WhichFolder) -> &'static str {
     match which {
-        Which::First => "first",
-        Which::Second => "second",
+        WhichFolder::First => "first",
+        WhichFolder::Second => "second",
     }
 }
 

@@ -1,5 +1,5 @@
 -- Tests for a replay, for the states at a location, and for the pairs of two summaries that agree.
-use Rattle.std.proofs.Common.{◌≡◌, ℕ, ◌+◌, ◌<◌, Bool, true, false, not, ◌&&◌, ◌||◌, eqb, ltb, leb, List, [], ◌∷◌, length, Ok, Err, sym, refl, ap, ◌∙◌, subst, ap₂, inl, inr, ⊎_elim}
+use Rattle.std.proofs.Common.{arith, ◌≡◌, ℕ, ◌+◌, ◌<◌, Bool, true, false, not, ◌&&◌, ◌||◌, eqb, ltb, leb, List, [], ◌∷◌, length, Ok, Err, sym, refl, ap, ◌∙◌, subst, ap₂, inl, inr, ⊎_elim}
 use Rattle.std.proofs.lemmas.Bool.{and_parts, and_from, or_cases, both_ways, not_from_false, eqb-true, eq-eqb, leb-true, ltb-true}
 use Rattle.std.specs.List.{AllByRecursion}
 use Rattle.locks.specs.Agreement.{bars, Unbarred}
@@ -11,7 +11,7 @@ use Rattle.locks.specs.declared.together.Configuration.{Configuration}
 use Rattle.locks.specs.Graphs.{Graph, step_at, locations}
 use Rattle.locks.specs.Moves.{move_named}
 use Rattle.locks.specs.Schedules.{Replays, Runs, from_starts, graph_of}
-use Rattle.locks.specs.Shortest.{Judged, NoSchedule}
+use Rattle.locks.specs.Shortest.{Judged, LeastLength, NoSchedule}
 use Rattle.locks.specs.States.{State}
 use Rattle.locks.specs.Together.{position_of, advance}
 use Rattle.locks.specs.Walks.{Distance}
@@ -49,13 +49,13 @@ pub record Thread (bytes : List ℕ) (cs : List Command) (es : List Entry) : Typ
 
 module _ {bytes : List ℕ} {cs : List Command} {es : List Entry} (thread : Thread bytes cs es) where
   pub summary : Summary (listing_graph cs) es
-  summary = (count_answer (listing_graph cs) es thread.test).says.2
+  summary = (count_answer (listing_graph cs) es thread.test).says.1
 
   pub judged : Judged (listing_graph cs)
   judged =
       record {
         bounded = listing_bounded cs (listings.read_back bytes cs (bytes_say bytes thread.bytes_small) thread.reads).1;
-        faultless = (count_answer (listing_graph cs) es thread.test).says.1;
+        faultless = (count_answer (listing_graph cs) es thread.test).says.0.1;
       }
 
 -- replays
@@ -212,22 +212,23 @@ too_short G H a b k ns s t =
     let p = and_parts (ltb a (locations G)) (ltb b (locations H) && (ltb k (length ns) && leb (length ns) longest)) t in
     let q = and_parts (ltb b (locations H)) (ltb k (length ns) && leb (length ns) longest) p.1 in
     let r = and_parts (ltb k (length ns)) (leb (length ns) longest) q.1 in
-    let says : AskSays (λ s. Unit {0}) (λ s. ⊥) (NoSchedule G H a b) (pair.Shortest G H a b) G H a b k (Err (TooShort (length ns))) = (
+    let says : AskSays (λ s. Unit {0}) (λ s. ⊥) (NoSchedule G H a b) (LeastLength G H a b) G H a b k (Err (TooShort (length ns))) = (
       tt,
       tt,
       (ltb-true a (locations G) p.0, ltb-true b (locations H) q.0),
-      record { least = record { schedule = ns; replays = s.replays; long = refl; none_shorter = s.none_shorter }; not_long = leb-true (length ns) longest r.1 },
+      record { schedule = ns; replays = s.replays; long = refl; none_shorter = s.none_shorter },
       ltb-true k (length ns) r.0,
     ) in
     record {
       fault = TooShort (length ns);
       answer = λ list e.
-          let here = subst (λ n. AskSays (λ s. Unit {0}) (λ s. ⊥) (NoSchedule G H a b) (pair.Shortest G H a b) G H a b n (Err (TooShort (length ns)))) (sym e) says in
+          let here = subst (λ n. AskSays (λ s. Unit {0}) (λ s. ⊥) (NoSchedule G H a b) (LeastLength G H a b) G H a b n (Err (TooShort (length ns)))) (sym e) says in
           record {
             says = here;
             only = λ x f. one_judgement (λ s. Unit {0}) (λ s. ⊥) G H a b (length list) (λ s n h. n) (Err (TooShort (length ns))) x here f;
             moves = tt;
             list = refl;
+            not_long = λ _ _ n l. let p = l.none_shorter ns s.replays in let q = leb-true (length ns) longest r.1 in omega arith;
           };
       refusal = refl;
     }

@@ -282,7 +282,7 @@ listed (x ∷ es) (suc i) e σ h q = listed es i e σ h q
 pub counted : (G : Graph) (es : List Entry) → count_test G es ≡ true → Counts G (length es)
 counted G es t =
     let a = count_answer G es t in
-    let s = a.says.2 in
+    let s = a.says.1 in
     record {
       states = map state_in es;
       count = length-map es state_in;

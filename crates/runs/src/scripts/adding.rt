@@ -6,9 +6,9 @@ use crate::calls::Call;
 use crate::scripts::Script;
 use std::alloc::{AllocError, Global};
 
-impl<L, R> Script<L, R> {
+impl<A, B> Script<A, B> {
     // A script without calls. Want of memory is an answer of this call and of no other in this crate.
-    pub fn new(heap: Global, most: usize) -> Result<Script<L, R>, AllocError>
+    pub fn new(heap: Global, most: usize) -> Result<Script<A, B>, AllocError>
         ensures { IfOk result (λ s. written s ≡ blank most) }
     {
         let calls = Vec::with_capacity(heap, most)?;
@@ -27,7 +27,7 @@ impl<L, R> Script<L, R> {
     }
 
     // One call more at the end. Where there are as many as the script has room for, the call is handed back.
-    pub fn add(&mut self, call: Call<L, R>) -> Result<(), Call<L, R>>
+    pub fn add(&mut self, call: Call<A, B>) -> Result<(), Call<A, B>>
         ensures { Added (written self.old) call result (written self.new) }
     {
         if self.calls.len() >= self.most {

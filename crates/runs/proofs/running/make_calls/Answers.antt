@@ -24,5 +24,5 @@ loop-call-preserved g c =
 -- src/running.rt:40:1
 pub returns : goal.returns
 returns g c =
-    run_right _ _ g.met.L.ThreadGraph.bounded g.met.R.ThreadGraph.bounded (contents c.args.first) (contents c.args.second) _ _ c.requires.0 c.requires.1
+    run_right _ _ g.met.A.ThreadGraph.bounded g.met.B.ThreadGraph.bounded (contents c.args.first) (contents c.args.second) _ _ c.requires.0 c.requires.1
     (ends _ _ _ (contents c.loop-call.first) _ (contents c.loop-call.second) (vec_items c.args.script.calls) (into_iter_items c.loop-call.rest) (vec_items c.loop-call.answers) c.loop-call.invariant.0 (sym c.loop-call.invariant.2 ∙ c.in_default.ensures.cases.0))

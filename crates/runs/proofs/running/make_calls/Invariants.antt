@@ -8,7 +8,7 @@ use Rattle.runs.proofs.running.make_calls.Given as goal
 -- the calls made so far have their answers, and there are places for the others'
 abbrev pub invariant-loop-call : goal.invariant-loop-call
 invariant-loop-call g l =
-    Continues g.L.ThreadGraph.meaning g.R.ThreadGraph.meaning (contents l.fn.first) (contents l.fn.second) (vec_items l.fn.script.calls) (vec_items l.answers) (contents l.first) (contents l.second) (into_iter_items l.rest)
+    Continues g.A.ThreadGraph.meaning g.B.ThreadGraph.meaning (contents l.fn.first) (contents l.fn.second) (vec_items l.fn.script.calls) (vec_items l.answers) (contents l.first) (contents l.second) (into_iter_items l.rest)
     × (vec_len l.answers + length (into_iter_items l.rest) ≤ vec_capacity l.answers) × (into_iter_len l.rest ≡ length (into_iter_items l.rest))
 
 abbrev pub decreases-loop-call : goal.decreases-loop-call

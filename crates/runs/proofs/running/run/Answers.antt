@@ -1,4 +1,4 @@
-use Rattle.runs.proofs.PointLaws.{graphs_in_force_came_last}
+use Rattle.runs.proofs.PointLaws.{in_force_is_the_last_exchange}
 use Rattle.runs.proofs.SameLaws.{same_states_same_answers}
 use Rattle.runs.proofs.running.run.Goals as goal
 
@@ -8,4 +8,4 @@ returns-clause-same g c = same_states_same_answers
 
 -- src/running.rt:23:1
 pub returns-clause-in_force : goal.returns-clause-in_force
-returns-clause-in_force g c = graphs_in_force_came_last
+returns-clause-in_force g c = in_force_is_the_last_exchange
