@@ -4,7 +4,7 @@
 use graph::ThreadGraph;
 use locks::moves::Move;
 use pairs::answers::Verdict;
-use pairs::asking::{MOST_MOVES, ask};
+use pairs::asking::{ask, most_moves};
 use readers::listing::Listing;
 use search::folders::{Folder, Room};
 use search::threads::{Pair, TwoThreads};
@@ -104,7 +104,7 @@ fn judge(
     threads: &TwoThreads<Listing, Listing>,
     pair: Pair,
 ) -> anyhow::Result<()> {
-    let mut list = vec![in rt.alloc(); 0; MOST_MOVES]?;
+    let mut list = vec![in rt.alloc(); 0; most_moves()]?;
     match ask(threads, pair, &mut list) {
         Ok(Verdict::Never) => println!(rt; "{} {} never", pair.left, pair.right)?,
         Ok(Verdict::Reached(length)) => {

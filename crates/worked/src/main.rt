@@ -1,4 +1,5 @@
-// Summaries and replays of worked threads. With the argument `times`, how long those of the heavy ones take.
+// Summaries and replays of worked threads, and a sequence of calls on two of them. With the argument `times`, how long
+// summaries of the heavy ones take.
 #![tactic(auto)]
 
 mod sequence;
@@ -65,12 +66,8 @@ fn replayed(
     pair: Pair,
     moves: &[u16],
 ) -> anyhow::Result<()> {
-    let Some(left) = folder(rt, left)? else {
-        return Ok(());
-    };
-    let Some(right) = folder(rt, right)? else {
-        return Ok(());
-    };
+    let left = folder(rt, left)?;
+    let right = folder(rt, right)?;
     print!(rt; "{} {} by {moves:?}: ", pair.left, pair.right)?;
     match TwoThreads::new(&left, &right).replay(pair, moves) {
         Ok(()) => println!(rt; "replays")?,
@@ -97,19 +94,13 @@ fn heavy(rt: &HostRuntime) -> anyhow::Result<()> {
     count(rt, "too crowded", threads::crowded(heap, 7, 1)?.as_slice())
 }
 
-fn folder(rt: &HostRuntime, bytes: &[u8]) -> anyhow::Result<Option<Folder<Listing>>> {
-    let mut listing = Listing::new(rt.alloc())?;
-    if let Err(fault) = listing.read(bytes) {
-        println!(rt; "{}", fault.refusal())?;
-        return Ok(None);
-    }
-    Ok(Some(Folder::open(Room::new(rt.alloc())?, listing)))
+fn folder(rt: &HostRuntime, bytes: &[u8]) -> anyhow::Result<Folder<Listing>> {
+    let heap = rt.alloc();
+    Ok(Folder::open(Room::new(heap)?, threads::listing(heap, bytes)?))
 }
 
 fn count(rt: &HostRuntime, name: &str, bytes: &[u8]) -> anyhow::Result<()> {
-    let Some(mut folder) = folder(rt, bytes)? else {
-        return Ok(());
-    };
+    let mut folder = folder(rt, bytes)?;
     match folder.summarise() {
         Ok(states) => println!(rt; "{name}: {states}")?,
         Err(fault) => println!(rt; "{name}: {}", fault.refusal())?,
@@ -119,9 +110,7 @@ fn count(rt: &HostRuntime, name: &str, bytes: &[u8]) -> anyhow::Result<()> {
 
 // The entries of one location: distance, and each held lock with its history.
 fn entries_at(rt: &HostRuntime, bytes: &[u8], location: u32) -> anyhow::Result<()> {
-    let Some(mut folder) = folder(rt, bytes)? else {
-        return Ok(());
-    };
+    let mut folder = folder(rt, bytes)?;
     let _ = folder.summarise();
     for (_, entry) in folder.entries_at(location) {
         print!(rt; "location {location} at distance {}:", entry.distance)?;
@@ -153,9 +142,7 @@ fn times(rt: &HostRuntime) -> anyhow::Result<()> {
 // Nanoseconds for one summary, on the average, and the number of its states: 0 where it is refused, as the table of
 // times has it.
 fn time(rt: &HostRuntime, name: &str, bytes: &[u8]) -> anyhow::Result<()> {
-    let Some(mut folder) = folder(rt, bytes)? else {
-        return Ok(());
-    };
+    let mut folder = folder(rt, bytes)?;
     let start = Instant::now(rt)?;
     let mut states = 0;
     for _ in 0..ROUNDS {

@@ -6,15 +6,13 @@ use readers::listing::Listing;
 use runs::calls::{Answer, Call, Question, Site, WhichFolder};
 use runs::running::run;
 use runs::scripts::Script;
+use search::entries::Entry;
 use search::folders::Room;
 use std::alloc::Global;
 use std::io;
 
 // What stands in the lists before an ask, so that a place that was written can be told from one that was not.
 const BLANK: u16 = 999;
-
-// More than there are calls.
-const MOST_CALLS: usize = 64;
 
 pub(crate) fn sequence(rt: &HostRuntime) -> anyhow::Result<()> {
     let heap = rt.alloc();
@@ -23,19 +21,19 @@ pub(crate) fn sequence(rt: &HostRuntime) -> anyhow::Result<()> {
     with_summaries(heap, &mut calls)?;
     on_one_folder(heap, &mut calls)?;
     after_exchanges(heap, &mut calls)?;
-    let mut script = Script::new(heap, MOST_CALLS)?;
+    let mut script = Script::new(heap, calls.len())?;
     for (number, call) in calls.into_iter().enumerate() {
         print!(rt; "call {number}: ")?;
         print_call(rt, &call)?;
         if script.add(call).is_err() {
-            println!(rt; "there is no room for it")?;
+            anyhow::bail!("there is no room for call {number}");
         }
     }
     let ran = run(
         Room::new(heap)?,
         Room::new(heap)?,
-        listing(heap, &threads::INNER_ONE)?,
-        listing(heap, &threads::INNER_ZERO)?,
+        threads::listing(heap, &threads::INNER_ONE)?,
+        threads::listing(heap, &threads::INNER_ZERO)?,
         script,
     );
     for (number, answer) in ran.answers.iter().enumerate() {
@@ -70,6 +68,8 @@ fn with_summaries(heap: Global, calls: &mut Calls) -> anyhow::Result<()> {
     calls.push(replay(heap, first(3), second(1), &[0, 0, 16])?)?;
     calls.push(replay(heap, first(3), second(1), &[0, 0, 256])?)?;
     calls.push(replay(heap, first(3), second(1), &[0, 0])?)?;
+    calls.push(replay(heap, first(3), second(4), &[])?)?;
+    calls.push(Call::Summarise(WhichFolder::Second))?;
     calls.push(Call::Entry(WhichFolder::Second, 3))?;
     calls.push(Call::Entry(WhichFolder::Second, 4))?;
     Ok(())
@@ -85,18 +85,23 @@ fn on_one_folder(heap: Global, calls: &mut Calls) -> anyhow::Result<()> {
 }
 
 fn after_exchanges(heap: Global, calls: &mut Calls) -> anyhow::Result<()> {
-    calls.push(Call::ExchangeFirst(listing(heap, &threads::TWO_WAYS)?))?;
+    calls.push(Call::ExchangeFirst(threads::listing(heap, &threads::TWO_WAYS)?))?;
     calls.push(Call::Entry(WhichFolder::First, 0))?;
     calls.push(ask(heap, first(5), second(3), 5)?)?;
     calls.push(Call::Summarise(WhichFolder::First))?;
     calls.push(ask(heap, first(5), second(3), 5)?)?;
     calls.push(replay(heap, first(5), second(3), &[256, 256, 256, 0, 1])?)?;
-    calls.push(Call::ExchangeSecond(listing(heap, &threads::OUTER_GIVEN_FIRST)?))?;
+    calls.push(Call::ExchangeSecond(threads::listing(heap, &threads::OUTER_GIVEN_FIRST)?))?;
     calls.push(Call::Summarise(WhichFolder::Second))?;
     calls.push(ask(heap, first(5), second(3), 5)?)?;
-    calls.push(Call::ExchangeSecond(listing(heap, &threads::FIVE_TAKEN)?))?;
+    calls.push(Call::ExchangeSecond(threads::listing(heap, &threads::FIVE_TAKEN)?))?;
     calls.push(Call::Summarise(WhichFolder::Second))?;
     calls.push(ask(heap, second(0), first(0), 5)?)?;
+    calls.push(Call::ExchangeFirst(threads::listing(
+        heap,
+        threads::crowded(heap, 7, 1)?.as_slice(),
+    )?))?;
+    calls.push(Call::Summarise(WhichFolder::First))?;
     Ok(())
 }
 
@@ -133,14 +138,6 @@ fn replay(
     let mut schedule = Vec::new(heap);
     schedule.extend_from_slice(moves)?;
     Ok(Call::Replay(Question { left, right }, schedule))
-}
-
-fn listing(heap: Global, bytes: &[u8]) -> anyhow::Result<Listing> {
-    let mut listing = Listing::new(heap)?;
-    if let Err(fault) = listing.read(bytes) {
-        anyhow::bail!("{}", fault.refusal());
-    }
-    Ok(listing)
 }
 
 fn folder_name(which: WhichFolder) -> &'static str {
@@ -213,4 +210,11 @@ fn print_answer(rt: &HostRuntime, answer: &Answer<Listing, Listing>) -> io::Resu
         Answer::Replayed(Ok(()), _) => println!(rt; "replays"),
         Answer::Replayed(Err(fault), _) => println!(rt; "{}", fault.refusal()),
     }
+}
+
+fn print_entry(rt: &HostRuntime, entry: &Entry) -> io::Result<()> {
+    println!(rt;
+        "location {} at distance {}, by step {} of entry {}",
+        entry.state.location, entry.distance, entry.choice, entry.parent
+    )
 }

@@ -1,4 +1,5 @@
 // Worked threads, as listings.
+use readers::listing::Listing;
 use std::alloc::{AllocError, Global};
 
 // Two ways into location 5: with lock 0 held, once with an empty history and once after lock 1.
@@ -74,4 +75,13 @@ pub(crate) fn crowded(heap: Global, most: u8, tail: u8) -> Result<Vec<u8>, Alloc
     }
     bytes.push(0x00)?;
     Ok(bytes)
+}
+
+// The graph of a worked thread.
+pub(crate) fn listing(heap: Global, bytes: &[u8]) -> anyhow::Result<Listing> {
+    let mut listing = Listing::new(heap)?;
+    if let Err(fault) = listing.read(bytes) {
+        anyhow::bail!("{}", fault.refusal());
+    }
+    Ok(listing)
 }
