@@ -191,12 +191,7 @@ fn print_answer(rt: &HostRuntime, answer: &Answer<Listing, Listing>) -> io::Resu
         Answer::Summarised(Ok(states)) => println!(rt; "{states} locked states"),
         Answer::Summarised(Err(fault)) => println!(rt; "{}", fault.refusal()),
         Answer::Entry(None) => println!(rt; "nothing"),
-        Answer::Entry(Some(entry)) => {
-            println!(rt;
-                "location {} at distance {}",
-                entry.state.location, entry.distance
-            )
-        }
+        Answer::Entry(Some(entry)) => print_entry(rt, entry),
         Answer::Asked(Ok(Verdict::Never), list) => println!(rt; "never, {:?}", list.as_slice()),
         Answer::Asked(Ok(Verdict::Reached(moves)), list) => println!(rt;
             "reached {moves}, {:?}",

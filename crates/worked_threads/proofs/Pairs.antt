@@ -1,6 +1,6 @@
 -- Tests for a replay, for the states at a location, and for the pairs of two summaries that agree.
 use Rattle.std.proofs.Common.{arith, ◌≡◌, ℕ, ◌+◌, ◌<◌, Bool, true, false, not, ◌&&◌, ◌||◌, eqb, ltb, leb, List, [], ◌∷◌, length, Ok, Err, sym, refl, ap, ◌∙◌, subst, ap₂, inl, inr, ⊎_elim}
-use Rattle.std.proofs.lemmas.Bool.{and_parts, and_from, or_cases, both_ways, not_from_false, eqb-true, eq-eqb, leb-true, ltb-true}
+use Rattle.std.proofs.lemmas.Bool.{and_parts, and_from, or_cases, both_ways, not_from_false, not-true, eqb-true, eq-eqb, leb-true, ltb-true}
 use Rattle.std.specs.List.{AllByRecursion}
 use Rattle.locks.specs.Agreement.{bars, Unbarred}
 use Rattle.locks.specs.Decomposition.{Agreeing}
@@ -14,11 +14,12 @@ use Rattle.locks.specs.Schedules.{Replays, Runs, from_starts, graph_of}
 use Rattle.locks.specs.Shortest.{Judged, LeastLength, NoSchedule}
 use Rattle.locks.specs.States.{State}
 use Rattle.locks.specs.Together.{position_of, advance}
-use Rattle.locks.specs.Walks.{Distance}
+use Rattle.locks.specs.Held.{holds}
+use Rattle.locks.specs.Sets.{has}
+use Rattle.locks.specs.Walks.{Reached, Distance}
 use Rattle.locks.proofs.Distances.{reached_states_have_distances_lem, one_distance}
 use Rattle.locks.proofs.LeastSum.{shortest_is_the_least_sum_lem, no_shorter}
 use Rattle.pairs.specs.declared.answers.AskFault.TheVariants.{TooShort}
-use Rattle.pairs.specs.Answers as pair
 use Rattle.pairs.specs.Answers.{AskSays, longest}
 use Rattle.pairs.proofs.AskLaws.{one_judgement}
 use Rattle.readers.specs.declared.listing.command.Command.{Command}
@@ -28,7 +29,7 @@ use Rattle.readers.specs.GraphLaws.{listing_bounded}
 use Rattle.readers.proofs.Laws.{listings}
 use Rattle.search.specs.declared.entries.Entry.{Entry}
 use Rattle.search.specs.Summaries.{state_in, ListedAt, Summary}
-use Rattle.worked_threads.specs.Worked.{Shortest, AskRefuses, TwoAt}
+use Rattle.worked_threads.specs.Worked.{Shortest, BothHold, CrossedHistories, NeverFor, AskRefuses, TwoAt}
 use Rattle.worked_threads.proofs.Summing.{count_test, count_answer}
 use Rattle.worked_threads.proofs.Tests.{implies, implies_says, every, every_says, some, some_says, on, on_says, same_state, state_says}
 
@@ -201,6 +202,69 @@ two_at G es s l σ τ d e t =
           (λ m. inr (sym x.3 ∙ state_says (state_in k) τ m))
           (or_cases (same_state (state_in k) σ) (same_state (state_in k) τ) found);
     }
+
+-- why a pair is never reached
+
+-- all locked states at the pair pass, by twos
+abbrev pub there_test : List Entry → List Entry → ℕ → ℕ → (State → State → Bool) → Bool
+there_test es fs a b g =
+    every (λ i e. every (λ j f. implies (eqb e.state.location a && eqb f.state.location b) (g (state_in e) (state_in f))) fs) es
+
+there_says : (G H : Graph) (es fs : List Entry) → Summary G es → Summary H fs → (a b : ℕ) (g : State → State → Bool) → there_test es fs a b g ≡ true
+    → (σ τ : State) → Reached G σ → Reached H τ → σ.location ≡ a → τ.location ≡ b → g σ τ ≡ true
+there_says G H es fs s t a b g test σ τ r u p q =
+    let x = s.all_reached σ r in
+    let y = t.all_reached τ u in
+    let e = x.1 in
+    let f = y.1 in
+    let pair : Entry → Entry → Bool = λ k m. implies (eqb k.state.location a && eqb m.state.location b) (g (state_in k) (state_in m)) in
+    let cell = every_says (λ j m. pair e m) fs (every_says (λ i k. every (λ j m. pair k m) fs) es test x.0 e x.2) y.0 f y.2 in
+    let here = and_from (eqb e.state.location a) (eqb f.state.location b) (eq-eqb e.state.location a (ap (λ z. z.location) x.3 ∙ p)) (eq-eqb f.state.location b (ap (λ z. z.location) y.3 ∙ q)) in
+    let passed = implies_says (eqb e.state.location a && eqb f.state.location b) (g (state_in e) (state_in f)) cell here in
+    subst (λ z. g z τ ≡ true) x.3 (subst (λ z. g (state_in e) z ≡ true) y.3 passed)
+
+abbrev pub both_hold : ℕ → State → State → Bool
+both_hold k σ τ = holds k σ.held && holds k τ.held
+
+abbrev crossed_held : List Held → List Held → Bool
+crossed_held (k ∷ []) (m ∷ []) = not (eqb k.lock m.lock) && (has m.lock k.history && has k.lock m.history)
+crossed_held ks ms = false
+
+abbrev pub crossed : State → State → Bool
+crossed σ τ = crossed_held σ.held τ.held
+
+crossed_by : (σ τ : State) (ks ms : List Held) → σ.held ≡ ks → τ.held ≡ ms → crossed_held ks ms ≡ true → CrossedHistories σ τ
+crossed_by σ τ [] ms d e t = absurd (both_ways false refl t)
+crossed_by σ τ (k ∷ []) [] d e t = absurd (both_ways false refl t)
+crossed_by σ τ (k ∷ l ∷ ks) ms d e t = absurd (both_ways false refl t)
+crossed_by σ τ (k ∷ []) (m ∷ n ∷ ms) d e t = absurd (both_ways false refl t)
+crossed_by σ τ (k ∷ []) (m ∷ []) d e t =
+    let p = and_parts (not (eqb k.lock m.lock)) (has m.lock k.history && has k.lock m.history) t in
+    let q = and_parts (has m.lock k.history) (has k.lock m.history) p.1 in
+    record {
+      k = k;
+      m = m;
+      left_holds = d;
+      right_holds = e;
+      differ = λ z. both_ways (eqb k.lock m.lock) (not-true (eqb k.lock m.lock) p.0) (eq-eqb k.lock m.lock z);
+      right_in_left = q.0;
+      left_in_right = q.1;
+    }
+
+module _ {left right : List ℕ} {cs ds : List Command} {es fs : List Entry} (L : Thread left cs es) (R : Thread right ds fs) (a b : ℕ) where
+  pub never_crossed : sums_test es fs a b (λ n. false) ≡ true → there_test es fs a b crossed ≡ true → NeverFor (listing_graph cs) (listing_graph ds) a b CrossedHistories
+  never_crossed t u =
+      record {
+        never = never L R a b t;
+        why = λ σ τ r v p q. crossed_by σ τ σ.held τ.held refl refl (there_says (listing_graph cs) (listing_graph ds) es fs (summary L) (summary R) a b crossed u σ τ r v p q);
+      }
+
+  pub never_holding : (k : ℕ) → sums_test es fs a b (λ n. false) ≡ true → there_test es fs a b (both_hold k) ≡ true → NeverFor (listing_graph cs) (listing_graph ds) a b (BothHold k)
+  never_holding k t u =
+      record {
+        never = never L R a b t;
+        why = λ σ τ r v p q. and_parts (holds k σ.held) (holds k τ.held) (there_says (listing_graph cs) (listing_graph ds) es fs (summary L) (summary R) a b (both_hold k) u σ τ r v p q);
+      }
 
 -- a list that is too short for a shortest schedule
 

@@ -1,11 +1,13 @@
 -- What the definitions yield for the worked threads.
-use Rattle.std.specs.Prelude.{◌≡◌, ℕ, ◌≤◌, ◌⊎◌, List, [], ◌∷◌, length, Some, Ok, Err}
+use Rattle.std.specs.Prelude.{◌≡◌, ◌≢◌, ℕ, true, ◌≤◌, ◌⊎◌, List, [], ◌∷◌, length, Some, Ok, Err}
 use Rattle.std.specs.List.{slice_get, AllByRecursion}
+use Rattle.locks.specs.declared.held.Held.{Held}
 use Rattle.locks.specs.declared.refusals.Part.TheVariants.{Summarise, Ask}
 use Rattle.locks.specs.declared.sets.LockSet.{LockSet}
 use Rattle.locks.specs.Graphs.{Graph}
 use Rattle.locks.specs.Schedules.{Replays}
-use Rattle.locks.specs.Sets.{none, add}
+use Rattle.locks.specs.Held.{holds}
+use Rattle.locks.specs.Sets.{none, add, has}
 use Rattle.locks.specs.Shortest.{NoSchedule}
 use Rattle.locks.specs.States.{State}
 use Rattle.locks.specs.Walks.{Reached, Distance}
@@ -32,6 +34,25 @@ OfThreads left right P = OfThread left (λ G. OfThread right (λ H. P G H))
 pub record Shortest (G H : Graph) (a b : ℕ) (ns : List ℕ) : Type 0 where
   pub replays : Replays G H a b ns
   pub none_shorter : (ms : List ℕ) → Replays G H a b ms → length ns ≤ length ms
+
+-- both hold this lock
+abbrev pub BothHold : ℕ → State → State → Type 0
+BothHold k σ τ = (holds k σ.held ≡ true) × (holds k τ.held ≡ true)
+
+-- each holds one lock, not the same, and each lock is in the other's history
+pub record CrossedHistories (σ τ : State) : Type 0 where
+  pub k : Held
+  pub m : Held
+  pub left_holds : σ.held ≡ k ∷ []
+  pub right_holds : τ.held ≡ m ∷ []
+  pub differ : k.lock ≢ m.lock
+  pub right_in_left : has m.lock k.history ≡ true
+  pub left_in_right : has k.lock m.history ≡ true
+
+-- no schedule replays to the pair, and why: this holds of any locked states in which the two threads alone are there
+pub record NeverFor (G H : Graph) (a b : ℕ) (Why : State → State → Type 0) : Type 0 where
+  pub never : NoSchedule G H a b
+  pub why : (σ τ : State) → Reached G σ → Reached H τ → σ.location ≡ a → τ.location ≡ b → Why σ τ
 
 -- the thread alone reaches n different locked states and no other, and n is what summarise answers
 pub record Counts (G : Graph) (n : ℕ) : Type 0 where
@@ -71,9 +92,11 @@ pub record WorkedThreadsComeOut : Type 0 where
   pub left_first : OfThreads inner_one inner_zero (λ G H. Shortest G H 3 1 (0 ∷ 0 ∷ 0 ∷ 256 ∷ []))
   pub left_first_in_a_short_list : OfThreads inner_one inner_zero (λ G H. AskRefuses G H 3 1 3 18 4)
   pub right_first : OfThreads inner_one inner_zero (λ G H. Shortest G H 1 3 (256 ∷ 256 ∷ 256 ∷ 0 ∷ []))
-  pub never_by_histories : OfThreads inner_one inner_zero (λ G H. NoSchedule G H 3 3)
-  pub never_with_a_lock_in_common : OfThreads inner_one inner_zero (λ G H. NoSchedule G H 2 1)
+  pub never_by_histories : OfThreads inner_one inner_zero (λ G H. NeverFor G H 3 3 CrossedHistories)
+  pub never_with_a_lock_in_common : OfThreads inner_one inner_zero (λ G H. NeverFor G H 2 1 (BothHold 1))
   pub by_the_short_way : OfThreads two_ways inner_zero (λ G H. Shortest G H 5 3 (256 ∷ 256 ∷ 256 ∷ 0 ∷ 1 ∷ []))
+  pub inner_one_states : OfThread inner_one (λ G. Counts G 4)
+  pub inner_zero_states : OfThread inner_zero (λ G. Counts G 4)
   pub two_ways_states : OfThread two_ways (λ G. Counts G 7)
   pub two_ways_meet : OfThread two_ways (λ G. TwoAt G 5 (holding_zero 5 none) (holding_zero 5 (add 1 none)) 2 5)
   pub outer_given_first_refused : OfThread outer_given_first (λ G. Refuses G 14 32)
