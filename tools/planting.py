@@ -1,0 +1,42 @@
+"""Faults planted in copies of the repository, each with what a check says of it."""
+import os, re, shutil, subprocess, sys, tempfile
+from collections import namedtuple
+
+# Whether the check refused, the crate that it refused, the first place there as FILE:LINE, and all that it said.
+Outcome = namedtuple('Outcome', 'refused crate place said')
+
+
+def root():
+    return subprocess.run(['git', 'rev-parse', '--show-toplevel'], capture_output=True, text=True).stdout.strip()
+
+
+def replace(what, work, path, old, new):
+    with open(os.path.join(work, path), encoding='utf-8') as file:
+        text = file.read()
+    # A fault that no longer fits its text shows nothing.
+    if text.count(old) != 1:
+        sys.exit(f'{what}: the text to replace stands {text.count(old)} times in {path}')
+    with open(os.path.join(work, path), 'w', encoding='utf-8') as file:
+        file.write(text.replace(old, new))
+
+
+def tried(what, changes, crate):
+    """Checks a crate of a fresh copy, in which each change (PATH, OLD, NEW) is made."""
+    top = root()
+    with tempfile.TemporaryDirectory() as work:
+        shutil.copy(os.path.join(top, 'crates.txt'), work)
+        shutil.copytree(os.path.join(top, 'crates'), os.path.join(work, 'crates'), ignore=shutil.ignore_patterns('out'))
+        for path, old, new in changes:
+            replace(what, work, path, old, new)
+        run = subprocess.run(['rt', 'check'], cwd=os.path.join(work, 'crates', crate), capture_output=True, text=True)
+    said = run.stdout + run.stderr
+    # The crates below are proved first, and say so too.
+    verdicts = re.findall(r'^logic=(\S+)', said, re.M)
+    below = re.search(r'^rt: the library (\w+) did not build', said, re.M)
+    first = re.search(r'((?:src|specs|proofs)/\S+?):(\d+):\d+: (?:error|note: it is|it is)', said)
+    return Outcome(
+        refused=run.returncode != 0 and verdicts[-1:] != ['proved'],
+        crate=below.group(1) if below else crate,
+        place=f'{first.group(1)}:{first.group(2)}' if first else None,
+        said=said,
+    )
