@@ -21,6 +21,7 @@ use Rattle.runs.specs.declared.calls.Answer.TheVariants as back
 use Rattle.runs.specs.Calls.{asked, numbered, answer_meaning, by_which, folder_at}
 
 module _ {A B : Type 0} (of_first : A → Graph) (of_second : B → Graph) where
+  -- what one of the two folders has
   abbrev pub graph_of : Contents A → Contents B → WhichFolder → Graph
   graph_of f s w = by_which (of_first f.graph) (of_second s.graph) w
 
