@@ -1,4 +1,5 @@
-// Reads what a replay is about from standard input, and prints the replay move by move and then the verdict on the pair.
+// Reads two threads, a pair and a schedule from standard input, and prints the replay move by move and then the verdict
+// on the pair.
 #![tactic(auto)]
 
 use graph::ThreadGraph;

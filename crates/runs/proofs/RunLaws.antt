@@ -16,7 +16,7 @@ use Rattle.runs.specs.declared.running.Outcome.{Outcome}
 use Rattle.runs.specs.Calls.{CallMeaning, exchange, asked, call_meaning, answer_meaning}
 use Rattle.runs.specs.Obeying.{graph_of, entries_in, Obeys}
 use Rattle.runs.specs.Rules.{EntriesAre}
-use Rattle.runs.specs.Running.{firsts_by, seconds_by, first_back, second_back, RunRight}
+use Rattle.runs.specs.Running.{firsts_by, seconds_by, firsts_back, seconds_back, RunRight}
 use Rattle.runs.proofs.ChainLaws.{Obeyed, along}
 use Rattle.runs.proofs.StandingLaws.{Kept, entries_are}
 
@@ -35,7 +35,7 @@ module _ {A B : Type 0} (of_first : A → Graph) (of_second : B → Graph) where
         ∙ sym (append_assoc (of z) (now o.0 o.1 ∷ []) (flat_map by cs))
         ∙ ap (λ xs. xs ++ flat_map by cs) (one f o.0 s o.1 c z o.2)
 
-  ask_first : (z : Answer A B) (x : _) (after : List ℕ) → answer_meaning of_first of_second z ≡ asked x after → first_back z ≡ []
+  ask_first : (z : Answer A B) (x : _) (after : List ℕ) → answer_meaning of_first of_second z ≡ asked x after → firsts_back z ≡ []
   ask_first (back.ExchangedFirst g) x after e = absurd cc
   ask_first (back.ExchangedSecond g) x after e = refl
   ask_first (back.Summarised y) x after e = refl
@@ -43,7 +43,7 @@ module _ {A B : Type 0} (of_first : A → Graph) (of_second : B → Graph) where
   ask_first (back.Asked y list) x after e = refl
   ask_first (back.Replayed y moves) x after e = refl
 
-  ask_second : (z : Answer A B) (x : _) (after : List ℕ) → answer_meaning of_first of_second z ≡ asked x after → second_back z ≡ []
+  ask_second : (z : Answer A B) (x : _) (after : List ℕ) → answer_meaning of_first of_second z ≡ asked x after → seconds_back z ≡ []
   ask_second (back.ExchangedFirst g) x after e = refl
   ask_second (back.ExchangedSecond g) x after e = absurd cc
   ask_second (back.Summarised y) x after e = refl
@@ -54,23 +54,23 @@ module _ {A B : Type 0} (of_first : A → Graph) (of_second : B → Graph) where
   nothing_back : {X : Type 0} (xs : List X) (x y : X) → xs ≡ [] → x ≡ y → xs ++ x ∷ [] ≡ y ∷ []
   nothing_back xs x y e d = ap (λ zs. zs ++ x ∷ []) e ∙ ap (λ z. z ∷ []) d
 
-  one_first : (f g : Contents A) (s t : Contents B) (c : Call A B) (z : Answer A B) → Obeys of_first of_second f s c z g t → first_back z ++ g.graph ∷ [] ≡ f.graph ∷ firsts_by c
-  one_first f g s t (code.ExchangeFirst h) z o = ap (λ x. first_back x ++ g.graph ∷ []) o.0 ∙ ap (λ x. f.graph ∷ x.graph ∷ []) o.1
-  one_first f g s t (code.ExchangeSecond h) z o = nothing_back (first_back z) g.graph f.graph (ap first_back o.0) (ap (λ x. x.graph) o.1)
-  one_first f g s t (code.Summarise First) z o = nothing_back (first_back z) g.graph f.graph (ap first_back o.1) o.3
-  one_first f g s t (code.Summarise Second) z o = nothing_back (first_back z) g.graph f.graph (ap first_back o.1) (ap (λ x. x.graph) o.3)
-  one_first f g s t (code.Entry w n) z o = nothing_back (first_back z) g.graph f.graph (ap first_back o.0) (ap (λ x. x.graph) o.1)
-  one_first f g s t (code.Ask q list) z o = nothing_back (first_back z) g.graph f.graph (ask_first z _ o.1 o.2) (ap (λ x. x.graph) o.4)
-  one_first f g s t (code.Replay q moves) z o = nothing_back (first_back z) g.graph f.graph (ap first_back o.1) (ap (λ x. x.graph) o.3)
+  one_first : (f g : Contents A) (s t : Contents B) (c : Call A B) (z : Answer A B) → Obeys of_first of_second f s c z g t → firsts_back z ++ g.graph ∷ [] ≡ f.graph ∷ firsts_by c
+  one_first f g s t (code.ExchangeFirst h) z o = ap (λ x. firsts_back x ++ g.graph ∷ []) o.0 ∙ ap (λ x. f.graph ∷ x.graph ∷ []) o.1
+  one_first f g s t (code.ExchangeSecond h) z o = nothing_back (firsts_back z) g.graph f.graph (ap firsts_back o.0) (ap (λ x. x.graph) o.1)
+  one_first f g s t (code.Summarise First) z o = nothing_back (firsts_back z) g.graph f.graph (ap firsts_back o.1) o.3
+  one_first f g s t (code.Summarise Second) z o = nothing_back (firsts_back z) g.graph f.graph (ap firsts_back o.1) (ap (λ x. x.graph) o.3)
+  one_first f g s t (code.Entry w n) z o = nothing_back (firsts_back z) g.graph f.graph (ap firsts_back o.0) (ap (λ x. x.graph) o.1)
+  one_first f g s t (code.Ask q list) z o = nothing_back (firsts_back z) g.graph f.graph (ask_first z _ o.1 o.2) (ap (λ x. x.graph) o.4)
+  one_first f g s t (code.Replay q moves) z o = nothing_back (firsts_back z) g.graph f.graph (ap firsts_back o.1) (ap (λ x. x.graph) o.3)
 
-  one_second : (f g : Contents A) (s t : Contents B) (c : Call A B) (z : Answer A B) → Obeys of_first of_second f s c z g t → second_back z ++ t.graph ∷ [] ≡ s.graph ∷ seconds_by c
-  one_second f g s t (code.ExchangeFirst h) z o = nothing_back (second_back z) t.graph s.graph (ap second_back o.0) (ap (λ x. x.graph) o.2)
-  one_second f g s t (code.ExchangeSecond h) z o = ap (λ x. second_back x ++ t.graph ∷ []) o.0 ∙ ap (λ x. s.graph ∷ x.graph ∷ []) o.2
-  one_second f g s t (code.Summarise First) z o = nothing_back (second_back z) t.graph s.graph (ap second_back o.1) (ap (λ x. x.graph) o.4)
-  one_second f g s t (code.Summarise Second) z o = nothing_back (second_back z) t.graph s.graph (ap second_back o.1) o.4
-  one_second f g s t (code.Entry w n) z o = nothing_back (second_back z) t.graph s.graph (ap second_back o.0) (ap (λ x. x.graph) o.2)
-  one_second f g s t (code.Ask q list) z o = nothing_back (second_back z) t.graph s.graph (ask_second z _ o.1 o.2) (ap (λ x. x.graph) o.5)
-  one_second f g s t (code.Replay q moves) z o = nothing_back (second_back z) t.graph s.graph (ap second_back o.1) (ap (λ x. x.graph) o.4)
+  one_second : (f g : Contents A) (s t : Contents B) (c : Call A B) (z : Answer A B) → Obeys of_first of_second f s c z g t → seconds_back z ++ t.graph ∷ [] ≡ s.graph ∷ seconds_by c
+  one_second f g s t (code.ExchangeFirst h) z o = nothing_back (seconds_back z) t.graph s.graph (ap seconds_back o.0) (ap (λ x. x.graph) o.2)
+  one_second f g s t (code.ExchangeSecond h) z o = ap (λ x. seconds_back x ++ t.graph ∷ []) o.0 ∙ ap (λ x. s.graph ∷ x.graph ∷ []) o.2
+  one_second f g s t (code.Summarise First) z o = nothing_back (seconds_back z) t.graph s.graph (ap seconds_back o.1) (ap (λ x. x.graph) o.4)
+  one_second f g s t (code.Summarise Second) z o = nothing_back (seconds_back z) t.graph s.graph (ap seconds_back o.1) o.4
+  one_second f g s t (code.Entry w n) z o = nothing_back (seconds_back z) t.graph s.graph (ap seconds_back o.0) (ap (λ x. x.graph) o.2)
+  one_second f g s t (code.Ask q list) z o = nothing_back (seconds_back z) t.graph s.graph (ask_second z _ o.1 o.2) (ap (λ x. x.graph) o.5)
+  one_second f g s t (code.Replay q moves) z o = nothing_back (seconds_back z) t.graph s.graph (ap seconds_back o.1) (ap (λ x. x.graph) o.4)
 
   -- every kind's graphs are within the bounds
 
@@ -105,8 +105,8 @@ module _ {A B : Type 0} (of_first : A → Graph) (of_second : B → Graph) where
           tables = y.tables;
           rules = record { as_many = length-map (vec_items ran.answers) (answer_meaning of_first of_second) ∙ y.as_many ∙ sym (length-map cs (call_meaning of_first of_second)); each = y.each };
           within = record { first = left_bounded g; second = right_bounded h; later = later_within cs };
-          first_graphs = passed_on firsts_by first_back (λ f s. f.graph) one_first cs (vec_items ran.answers) (unsummarised g) (contents ran.first) (unsummarised h) (contents ran.second) o;
-          second_graphs = passed_on seconds_by second_back (λ f s. s.graph) one_second cs (vec_items ran.answers) (unsummarised g) (contents ran.first) (unsummarised h) (contents ran.second) o;
+          first_graphs = passed_on firsts_by firsts_back (λ f s. f.graph) one_first cs (vec_items ran.answers) (unsummarised g) (contents ran.first) (unsummarised h) (contents ran.second) o;
+          second_graphs = passed_on seconds_by seconds_back (λ f s. s.graph) one_second cs (vec_items ran.answers) (unsummarised g) (contents ran.first) (unsummarised h) (contents ran.second) o;
           first_entries = left_entries First (of_first g) (of_second h) (map (call_meaning of_first of_second) cs) y.tables (of_first (contents ran.first).graph) (contents ran.first).summary (y.stands First);
           second_entries = left_entries Second (of_first g) (of_second h) (map (call_meaning of_first of_second) cs) y.tables (of_second (contents ran.second).graph) (contents ran.second).summary (y.stands Second);
         }

@@ -102,7 +102,7 @@ module _ (w : WhichFolder) (G H : Graph) (before : List CallMeaning) (tables : L
   pub entries_are : (later : List (List Entry)) → EntriesAre w before (tables ++ later) es
   entries_are later =
       record {
-        summarised = λ i s. sym (k.entries later) ∙ ap (λ o. entries_by o (tables ++ later)) (last_is_noted w before i s);
+        by_the_last = λ i s. sym (k.entries later) ∙ ap (λ o. entries_by o (tables ++ later)) (last_is_noted w before i s);
         never = λ a. sym (k.entries later) ∙ ap (λ o. entries_by o (tables ++ later)) (never_none w before a);
       }
 

@@ -55,12 +55,14 @@ answer_meaning of_first of_second (back.Entry x) = entry_is x
 answer_meaning of_first of_second (back.Asked x list) = asked (numbered ask_refusal x) (vec_items list)
 answer_meaning of_first of_second (back.Replayed x moves) = replayed (numbered replay_refusal x) (vec_items moves)
 
+-- are they the same folder?
 abbrev pub same : WhichFolder → WhichFolder → Bool
 same First First = true
 same First Second = false
 same Second First = false
 same Second Second = true
 
+-- the first for the first folder, the second for the second
 abbrev pub by_which : {A : Type 0} → A → A → WhichFolder → A
 by_which x y First = x
 by_which x y Second = y
@@ -87,7 +89,7 @@ last_of x (y ∷ ys) = last_of y ys
 abbrev pub in_force : WhichFolder → Graph → Graph → List CallMeaning → Graph
 in_force w G H cs = last_of (by_which G H w) (flat_map (put_by w) cs)
 
--- a call that gives a folder other entries, or none
+-- an exchange or a summarise of the folder
 abbrev pub renews : WhichFolder → CallMeaning → Bool
 renews w (exchange v K) = same w v
 renews w (summarise v) = same w v

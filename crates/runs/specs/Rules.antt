@@ -46,16 +46,18 @@ NeverSince w before = (i : ℕ) → SummarisedBy w before i → ⊥
 abbrev pub IsSummarised : WhichFolder → Graph → Graph → List CallMeaning → Type 0
 IsSummarised w G H before = ((i : ℕ) × SummarisedBy w before i) × Accepted (in_force w G H before)
 
+-- not the negation of that, but what makes it so
 abbrev pub NotSummarised : WhichFolder → Graph → Graph → List CallMeaning → Type 0
 NotSummarised w G H before = NeverSince w before ⊎ SomeRefusal (in_force w G H before)
 
 -- these are the entries of a folder: those of its last summarise, none where there was none since its last exchange
 pub record EntriesAre (w : WhichFolder) (before : List CallMeaning) (tables : List (List Entry)) (es : List Entry) : Type 0 where
-  pub summarised : (i : ℕ) → SummarisedBy w before i → es ≡ slice_index_or tables i []
+  pub by_the_last : (i : ℕ) → SummarisedBy w before i → es ≡ slice_index_or tables i []
   pub never : NeverSince w before → es ≡ []
 
--- What the answer to a call must be. G and H are the graphs with which the two folders were opened, and `tables`
--- has a list of entries for each call: that of a summarise is what belongs to it, a summary where it is accepted.
+-- What the answer to a call must be. G and H are the graphs with which the two folders were opened, and `before` are the
+-- calls before it. `tables` has a list of entries for each call, and `table` is its own: that of a summarise is what the
+-- folder then has, a summary where it is accepted.
 abbrev pub Rule : Graph → Graph → List CallMeaning → List (List Entry) → List Entry → CallMeaning → AnswerMeaning → Type 0
 Rule G H before tables table (exchange w K) z = z ≡ exchanged w (in_force w G H before)
 Rule G H before tables table (summarise w) z =

@@ -33,29 +33,29 @@ seconds_by (code.Replay q moves) = []
 
 -- and those that an answer hands back
 
-abbrev pub first_back : {A B : Type 0} → Answer A B → List A
-first_back (back.ExchangedFirst g) = g ∷ []
-first_back (back.ExchangedSecond g) = []
-first_back (back.Summarised x) = []
-first_back (back.Entry e) = []
-first_back (back.Asked x list) = []
-first_back (back.Replayed x moves) = []
+abbrev pub firsts_back : {A B : Type 0} → Answer A B → List A
+firsts_back (back.ExchangedFirst g) = g ∷ []
+firsts_back (back.ExchangedSecond g) = []
+firsts_back (back.Summarised x) = []
+firsts_back (back.Entry e) = []
+firsts_back (back.Asked x list) = []
+firsts_back (back.Replayed x moves) = []
 
-abbrev pub second_back : {A B : Type 0} → Answer A B → List B
-second_back (back.ExchangedFirst g) = []
-second_back (back.ExchangedSecond g) = g ∷ []
-second_back (back.Summarised x) = []
-second_back (back.Entry e) = []
-second_back (back.Asked x list) = []
-second_back (back.Replayed x moves) = []
+abbrev pub seconds_back : {A B : Type 0} → Answer A B → List B
+seconds_back (back.ExchangedFirst g) = []
+seconds_back (back.ExchangedSecond g) = g ∷ []
+seconds_back (back.Summarised x) = []
+seconds_back (back.Entry e) = []
+seconds_back (back.Asked x list) = []
+seconds_back (back.Replayed x moves) = []
 
--- The answers keep the rules. The graphs handed back, and last the one that is left in the folder, are those that
+-- The answers keep the rules, and every graph is within the bounds. The graphs handed back, and last the one that is left in the folder, are those that
 -- were put in, in order. Each folder's entries are those of its last summarise since its last exchange.
 pub record RunRight {A B : Type 0} (of_first : A → Graph) (of_second : B → Graph) (g : A) (h : B) (cs : List (Call A B)) (ran : Outcome A B) : Type 0 where
   pub tables : List (List Entry)
   pub rules : KeepsTheRules (of_first g) (of_second h) (map (call_meaning of_first of_second) cs) (map (answer_meaning of_first of_second) (vec_items ran.answers)) tables
   pub within : GraphsWithin (of_first g) (of_second h) (map (call_meaning of_first of_second) cs)
-  pub first_graphs : flat_map first_back (vec_items ran.answers) ++ (contents ran.first).graph ∷ [] ≡ g ∷ flat_map firsts_by cs
-  pub second_graphs : flat_map second_back (vec_items ran.answers) ++ (contents ran.second).graph ∷ [] ≡ h ∷ flat_map seconds_by cs
+  pub first_graphs : flat_map firsts_back (vec_items ran.answers) ++ (contents ran.first).graph ∷ [] ≡ g ∷ flat_map firsts_by cs
+  pub second_graphs : flat_map seconds_back (vec_items ran.answers) ++ (contents ran.second).graph ∷ [] ≡ h ∷ flat_map seconds_by cs
   pub first_entries : EntriesAre First (map (call_meaning of_first of_second) cs) tables (contents ran.first).summary
   pub second_entries : EntriesAre Second (map (call_meaning of_first of_second) cs) tables (contents ran.second).summary

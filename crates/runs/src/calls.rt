@@ -25,7 +25,8 @@ pub struct Question {
     pub right: Site,
 }
 
-// The first folder is over graphs of the kind A, the second over graphs of the kind B.
+// What is to be done with one folder or two. The first folder is over graphs of the kind A, the second over graphs of
+// the kind B.
 #[derive(Drop)]
 pub enum Call<A, B> {
     ExchangeFirst(A),

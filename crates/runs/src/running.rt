@@ -51,8 +51,8 @@ fn make_calls<A: ThreadGraph, B: ThreadGraph>(
         mut answers,
         most: _,
     } = script;
-    // No `for` loop: that would have to let go of what is left of the calls, and a graph need not be of a type that may be
-    // dropped.
+    // No `for` loop: that would have to let go of what is left of the calls, and a graph need not be of a type that
+    // may be dropped.
     let mut rest = calls.into_iter();
     while let Some(call) = rest.next() {
         answers.push_reserved(obey(&mut first, &mut second, call));

@@ -1,11 +1,11 @@
-// Lists of calls, made with the places of their answers.
+// Lists of calls, with room for their answers.
 pub mod adding;
 
 ghost use Rattle.std.specs.Prelude.{◌≡◌, ◌≤◌, vec_len, vec_capacity};
 
 use crate::calls::{Answer, Call};
 
-// Up to `most` calls. All the memory that they and their answers need is had when the script is made.
+// Up to `most` calls. The room for them and for their answers is had when the script is made.
 #[derive(Drop)]
 pub struct Script<A, B> {
     pub(crate) calls: Vec<Call<A, B>>,

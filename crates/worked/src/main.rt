@@ -1,4 +1,4 @@
-// Summaries and replays of worked threads, and a sequence of calls on two of them. With the argument `times`, how long
+// Summaries and replays of worked threads, and a sequence of calls on two folders. With an argument, how long
 // summaries of the heavy ones take.
 #![tactic(auto)]
 

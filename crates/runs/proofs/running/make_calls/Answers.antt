@@ -6,7 +6,7 @@ use Rattle.runs.proofs.ChainLaws.{goes_on, ends}
 use Rattle.runs.proofs.RunLaws.{run_right}
 use Rattle.runs.proofs.running.make_calls.Goals as goal
 
--- src/running.rt:54:5
+-- src/running.rt:57:5
 pub loop-call-preserved : goal.loop-call-preserved
 loop-call-preserved g c =
     let rest = ap length c.in-Some.ensures.items in
@@ -21,7 +21,7 @@ loop-call-preserved g c =
       omega arith,
     )
 
--- src/running.rt:40:1
+-- src/running.rt:41:1
 pub returns : goal.returns
 returns g c =
     run_right _ _ g.met.A.ThreadGraph.bounded g.met.B.ThreadGraph.bounded (contents c.args.first) (contents c.args.second) _ _ c.requires.0 c.requires.1
