@@ -10,3 +10,5 @@ pub mod Sizes
 pub mod Spelling
 pub mod Steps
 pub mod Stuck
+pub mod TableAnswers
+pub mod TableLaws

@@ -8,4 +8,9 @@ pub mod GraphLaws
 pub mod Items
 pub mod Place
 pub mod Reading
+pub mod Records
 pub mod Refusals
+pub mod Rows
+pub mod TableFaults
+pub mod TableRefusals
+pub mod Tables

@@ -1,4 +1,5 @@
-// Readers of the byte forms in which a thread is handed over.
+// Readers of the forms in which a thread is handed over.
 #![tactic(auto)]
 
 pub mod listing;
+pub mod table;

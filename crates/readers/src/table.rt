@@ -1,0 +1,10 @@
+// An edge table: a number of locations, a start, and a list of records, each of which spells one step.
+mod checks;
+mod fault;
+mod place;
+mod record;
+mod row;
+
+pub use fault::TableFault;
+pub use place::EdgeTable;
+pub use record::Record;
