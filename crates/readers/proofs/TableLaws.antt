@@ -5,11 +5,13 @@ use Rattle.std.specs.List.{slice_get}
 use Rattle.std.specs.Option.{option_map, is_some}
 use Rattle.std.proofs.lemmas.Bool.{cond-true, cond-false, eq-eqb}
 use Rattle.std.proofs.lemmas.Bool.Decides.{eqb_tells}
-use Rattle.std.proofs.lemmas.List.{take_more, take-append-drop, get_or-set_same, get_or-set_other, map-append, append-nil, length-append, length-map, length-set, map-set, get_or-map}
+use Rattle.std.proofs.lemmas.List.{take_more, take-append-drop, get_or-set_same, get_or-set_other, map-append, append-nil, length-append, length-map, length-set, map-set, get_or-map, ext_get_or}
 use Rattle.std.proofs.lemmas.List.Elements.{filter-append, All-filter, All-push}
 use Rattle.std.proofs.lemmas.Option.{slice_get-get_or, slice_get_within, get_or_from_slice_get, slice_get-map}
 use Rattle.locks.specs.declared.steps.Step.{Step}
+use Rattle.locks.specs.declared.steps.Kind.{Kind}
 use Rattle.locks.specs.declared.steps.Kind.TheVariants.{Plain}
+use Rattle.locks.specs.declared.steps.Kind.TheVariants as kind
 use Rattle.locks.specs.Graphs.{Graph, Bounded, StepFits, locations, steps_at, step_at}
 use Rattle.locks.specs.Limits.{most_locations, most_steps}
 use Rattle.locks.specs.Steps.{kind_number}
@@ -17,6 +19,7 @@ use Rattle.readers.specs.declared.table.record.Record.{Record}
 use Rattle.readers.specs.Records.{Fits, Spells, Table, record_of, records_at}
 use Rattle.readers.specs.declared.table.row.Row.{Row}
 use Rattle.readers.specs.Rows.{RowsSay, row_steps, rows_steps}
+use Rattle.readers.specs.Tables.{TablesSayOneGraph}
 use Rattle.readers.specs.TableRefusals.{AllFit, AllFew, CountFits, FirstTooMany}
 
 -- one record more
@@ -41,7 +44,7 @@ pub room_for : (rs : List Record) (i : ℕ) (d : Record) → i < length rs → A
 room_for rs i d h few =
     let r = get_or rs i d in
     let whole : records_at r.from (take (i + 1) rs) ++ records_at r.from (drop (i + 1) rs) ≡ records_at r.from rs =
-        sym (filter-append (λ x. eqb x.from r.from) (take (i + 1) rs) (drop (i + 1) rs)) ∙ ap (records_at r.from) (take-append-drop (i + 1) rs) in
+    sym (filter-append (λ x. eqb x.from r.from) (take (i + 1) rs) (drop (i + 1) rs)) ∙ ap (records_at r.from) (take-append-drop (i + 1) rs) in
     let more = ap length (ap (records_at r.from) (take_more rs i d h) ∙ records_own (take i rs) r) in
     let sum = ap length whole in
     let parts = length-append (records_at r.from (take (i + 1) rs)) (records_at r.from (drop (i + 1) rs)) in
@@ -71,15 +74,15 @@ step_entered : (l : ℕ) (steps : List (List Step)) (rs : List Record) (r : Reco
 step_entered l steps rs r s h is say =
     ⊎_elim
     (λ p. let here : map (record_of r.from) (get_or (set steps r.from (get_or steps r.from [] ++ s ∷ [])) r.from []) ≡ records_at r.from (rs ++ r ∷ []) =
-        ap (map (record_of r.from)) (get_or-set_same steps r.from (get_or steps r.from [] ++ s ∷ []) [] h)
-        ∙ map-append (record_of r.from) (get_or steps r.from []) (s ∷ [])
-        ∙ ap (λ xs. xs ++ record_of r.from s ∷ []) (say r.from)
-        ∙ ap (λ x. records_at r.from rs ++ x ∷ []) is
-        ∙ sym (records_own rs r) in
-      subst (λ k. map (record_of k) (get_or (set steps r.from (get_or steps r.from [] ++ s ∷ [])) k []) ≡ records_at k (rs ++ r ∷ [])) p.1 here)
+    ap (map (record_of r.from)) (get_or-set_same steps r.from (get_or steps r.from [] ++ s ∷ []) [] h)
+    ∙ map-append (record_of r.from) (get_or steps r.from []) (s ∷ [])
+    ∙ ap (λ xs. xs ++ record_of r.from s ∷ []) (say r.from)
+    ∙ ap (λ x. records_at r.from rs ++ x ∷ []) is
+    ∙ sym (records_own rs r) in
+    subst (λ k. map (record_of k) (get_or (set steps r.from (get_or steps r.from [] ++ s ∷ [])) k []) ≡ records_at k (rs ++ r ∷ [])) p.1 here)
     (λ p. ap (map (record_of l)) (get_or-set_other steps r.from l (get_or steps r.from [] ++ s ∷ []) [] (λ q. p.1 (sym q)))
-        ∙ say l
-        ∙ sym (records_other l rs r p.0))
+    ∙ say l
+    ∙ sym (records_other l rs r p.0))
     (eqb_tells r.from l)
 
 pub enter : (n : ℕ) (rs : List Record) (steps : List (List Step)) (r : Record) (s : Step) → Fits n r → record_of r.from s ≡ r → RowsSay n rs steps → RowsSay n (rs ++ r ∷ []) (set steps r.from (get_or steps r.from [] ++ s ∷ []))
@@ -109,9 +112,9 @@ step_fits n start rs G fit t l i s e =
     let long = length-map (steps_at G l) (record_of l) in
     let same = ap length (t.steps_are l) in
     let there : slice_get (map (record_of l) (steps_at G l)) i ≡ Some (record_of l s) =
-        slice_get-map (record_of l) (steps_at G l) i ∙ ap (λ o. option_map (record_of l) o) e in
+    slice_get-map (record_of l) (steps_at G l) i ∙ ap (λ o. option_map (record_of l) o) e in
     let it : get_or (records_at l rs) i (record_of l s) ≡ record_of l s =
-        get_or_from_slice_get (records_at l rs) i (record_of l s) (record_of l s) (ap (λ xs. slice_get xs i) (sym (t.steps_are l)) ∙ there) in
+    get_or_from_slice_get (records_at l rs) i (record_of l s) (record_of l s) (ap (λ xs. slice_get xs i) (sym (t.steps_are l)) ∙ there) in
     let kept = All-filter (λ r. eqb r.from l) (Fits n) rs fit in
     let fits : Fits n (record_of l s) = subst (Fits n) it (kept i (record_of l s) (omega arith)) in
     let many = t.locations_are in
@@ -164,6 +167,50 @@ row_entered n rs rows i at d row new s h spelt from is pushed say =
     let in_rows : at < length rows = omega arith in
     let grown : row_steps new ≡ get_or steps at [] ++ s ∷ [] = pushed ∙ ap (λ xs. xs ++ s ∷ []) (row_there rows at row in_rows is) in
     let is_set : rows_steps (set rows at new) ≡ set steps r.from (get_or steps r.from [] ++ s ∷ []) =
-        map-set row_steps rows at new ∙ ap (set steps at) grown ∙ ap (λ l. set steps l (get_or steps l [] ++ s ∷ [])) from in
+    map-set row_steps rows at new ∙ ap (set steps at) grown ∙ ap (λ l. set steps l (get_or steps l [] ++ s ∷ [])) from in
     subst (λ xs. RowsSay n xs (rows_steps (set rows at new))) (sym (take_more rs i d h))
     (subst (RowsSay n (take i rs ++ r ∷ [])) (sym is_set) (enter n (take i rs) steps r s spelt.0 spelt.1 say))
+
+-- what the records say is one graph
+
+same_kind : (a b : Kind) → kind_number a ≡ kind_number b → a ≡ b
+same_kind Plain Plain e = refl
+same_kind Plain kind.Take e = cc
+same_kind Plain kind.Give e = cc
+same_kind kind.Take Plain e = cc
+same_kind kind.Take kind.Take e = refl
+same_kind kind.Take kind.Give e = cc
+same_kind kind.Give Plain e = cc
+same_kind kind.Give kind.Take e = cc
+same_kind kind.Give kind.Give e = refl
+
+same_step : (l : ℕ) (s t : Step) → record_of l s ≡ record_of l t → s ≡ t
+same_step l s t e =
+    let kinds = same_kind s.kind t.kind (ap (λ r. r.kind) e) in
+    let locks = ap (λ r. r.lock) e in
+    let targets = ap (λ r. r.to) e in
+    ap (λ k. record { kind = k; lock = s.lock; target = s.target }) kinds
+    ∙ ap (λ k. record { kind = t.kind; lock = k; target = s.target }) locks
+    ∙ ap (λ k. record { kind = t.kind; lock = t.lock; target = k }) targets
+
+same_steps : (l : ℕ) (xs ys : List Step) → map (record_of l) xs ≡ map (record_of l) ys → xs ≡ ys
+same_steps l [] [] e = refl
+same_steps l [] (y ∷ ys) e = cc
+same_steps l (x ∷ xs) [] e = cc
+same_steps l (x ∷ xs) (y ∷ ys) e =
+    let first : record_of l x ≡ record_of l y = cc in
+    let rest : map (record_of l) xs ≡ map (record_of l) ys = cc in
+    ap (λ z. z ∷ xs) (same_step l x y first) ∙ ap (λ zs. y ∷ zs) (same_steps l xs ys rest)
+
+one_graph : (n start : ℕ) (rs : List Record) (G H : Graph) → Table n start rs G → Table n start rs H → G ≡ H
+one_graph n start rs G H t u =
+    let starts = t.start_is ∙ sym u.start_is in
+    let steps = ext_get_or [] G.steps H.steps (t.locations_are ∙ sym u.locations_are)
+    (λ l h. same_steps l (steps_at G l) (steps_at H l) (t.steps_are l ∙ sym (u.steps_are l))) in
+    ap (λ s. record { start = s; steps = G.steps }) starts ∙ ap (λ ss. record { start = H.start; steps = ss }) steps
+
+pub tables_say_one_graph : TablesSayOneGraph
+tables_say_one_graph = record {
+  one = one_graph;
+  within = λ n start rs G says t. bounded n start rs G says.0 says.1 says.2 says.3 t;
+}

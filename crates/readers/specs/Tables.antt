@@ -1,6 +1,6 @@
 -- What the place of an edge table holds, before and after a reading.
 use Rattle.std.specs.Prelude.{◌≡◌, ℕ, List, Ok, Err, Result, vec_items}
-use Rattle.locks.specs.Graphs.{Graph}
+use Rattle.locks.specs.Graphs.{Graph, Bounded}
 use Rattle.readers.specs.declared.table.fault.TableFault.{TableFault}
 use Rattle.readers.specs.declared.table.place.EdgeTable.{EdgeTable}
 use Rattle.readers.specs.declared.table.record.Record.{Record}
@@ -25,3 +25,8 @@ pub record TableReads (n start : ℕ) (rs : List Record) (before : Graph) (r : R
   pub says : TableSays n start rs r
   pub only : (q : Result (Unit {0}) TableFault) → TableSays n start rs q → q ≡ r
   pub holds : Holds n start rs before r after
+
+-- at most one graph is what the records say, and where they are a table it is within the bounds
+pub record TablesSayOneGraph : Type 0 where
+  pub one : (n start : ℕ) (rs : List Record) (G H : Graph) → Table n start rs G → Table n start rs H → G ≡ H
+  pub within : (n start : ℕ) (rs : List Record) (G : Graph) → TableSays n start rs (Ok tt) → Table n start rs G → Bounded G

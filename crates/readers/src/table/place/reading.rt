@@ -1,7 +1,8 @@
 ghost use Rattle.std.specs.Prelude.{◌≡◌, ◌≤◌, vec_capacity, IfOk};
 ghost use Rattle.locks.specs.Limits.{most_locations};
+ghost use Rattle.readers.specs.contracts.table.place.questions.EdgeTableThreadGraph.TheImpl.{ghosts as table_ghosts};
 ghost use Rattle.readers.specs.Rows.{bare, rows_steps, RowsSay};
-ghost use Rattle.readers.specs.Tables.{bare_graph, table_graph, TableReads};
+ghost use Rattle.readers.specs.Tables.{bare_graph, TableReads};
 ghost use Rattle.readers.specs.TableRefusals.{AllFit, AllFew};
 
 use crate::table::checks::check;
@@ -14,7 +15,7 @@ use std::alloc::{AllocError, Global};
 impl EdgeTable {
     // All memory is had here. The place begins as one location without steps.
     pub fn new(heap: Global) -> Result<EdgeTable, AllocError>
-        ensures { IfOk result (λ t. table_graph t ≡ bare_graph) }
+        ensures { IfOk result (λ t. table_ghosts.meaning t ≡ bare_graph) }
     {
         let mut rows = Vec::with_capacity(heap, MOST_LOCATIONS)?;
         rows.push_reserved(Row::empty());
@@ -23,7 +24,7 @@ impl EdgeTable {
 
     // The whole input is checked before the place is touched.
     pub fn read(&mut self, locations: u16, start: u16, records: &[Record]) -> Result<(), TableFault>
-        ensures { TableReads locations start records.now (table_graph self.old) result (table_graph self.new) }
+        ensures { TableReads locations start records.now (table_ghosts.meaning self.old) result (table_ghosts.meaning self.new) }
     {
         check(locations, start, records)?;
         clear(&mut self.rows, locations);

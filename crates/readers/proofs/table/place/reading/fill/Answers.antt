@@ -9,9 +9,9 @@ push-requires c = row_has_room c.args.locations c.args.records.now c.loop-record
 
 pub loop-record-preserved : goal.loop-record-preserved
 loop-record-preserved c = elim c.match-step.branch [
-    in-Some w ↦ record {
-      say = rw w.rows-is (row_entered c.args.locations c.args.records.now c.loop-record.rows.items c.loop-record.record-index w.from.result _ _ _ _ c.loop-record-test.true w.in-Some.ensures w.from.ensures w.index_mut.ensures.value w.push.ensures c.loop-record.invariant.say);
-      room = ap vec_capacity w.rows-is ∙ c.loop-record.invariant.room;
-    }
+  | in-Some w ↦ record {
+    say = rw w.rows-is (row_entered c.args.locations c.args.records.now c.loop-record.rows.items c.loop-record.record-index w.from.result _ _ _ _ c.loop-record-test.true w.in-Some.ensures w.from.ensures w.index_mut.ensures.value w.push.ensures c.loop-record.invariant.say);
+    room = ap vec_capacity w.rows-is ∙ c.loop-record.invariant.room;
+  }
   | in_default w ↦ absurd (w.in_default.ensures (c.requires.fit c.loop-record.record-index _ c.loop-record-test.true))
 ]
