@@ -1,0 +1,28 @@
+-- Graphs whose locks are renamed.
+use Rattle.std.specs.Prelude.{◌≡◌, ℕ, List, map}
+use Rattle.std.specs.Option.{option_map}
+use Rattle.locks.specs.declared.steps.Kind.{Kind}
+use Rattle.locks.specs.declared.steps.Kind.TheVariants.{Plain, Take, Give}
+use Rattle.locks.specs.declared.steps.Step.{Step}
+use Rattle.locks.specs.Graphs.{Graph, locations, step_at}
+use Rattle.layers.specs.Numbers.{in_order, number_of}
+
+-- a plain step has no lock to rename
+abbrev pub renamed_lock : List ℕ → Kind → ℕ → ℕ
+renamed_lock ns Plain k = k
+renamed_lock ns Take k = number_of ns k
+renamed_lock ns Give k = number_of ns k
+
+abbrev pub renamed_step : List ℕ → Step → Step
+renamed_step ns s = record { kind = s.kind; lock = renamed_lock ns s.kind s.lock; target = s.target }
+
+-- the graph beneath, with the number of each lock in place of the lock
+abbrev pub renamed_graph : List ℕ → Graph → Graph
+renamed_graph ns G = record { start = G.start; steps = map (map (renamed_step ns)) G.steps }
+
+-- Locations, start, kinds and targets stay, and where each lock has its own number the graph does.
+pub record RenamingChangesLocksAlone : Type 0 where
+  pub same_start : (ns : List ℕ) (G : Graph) → (renamed_graph ns G).start ≡ G.start
+  pub same_locations : (ns : List ℕ) (G : Graph) → locations (renamed_graph ns G) ≡ locations G
+  pub each_step : (ns : List ℕ) (G : Graph) (l n : ℕ) → step_at (renamed_graph ns G) l n ≡ option_map (renamed_step ns) (step_at G l n)
+  pub in_order_same : (G : Graph) → renamed_graph in_order G ≡ G

@@ -1,0 +1,20 @@
+// Names of locks: which number each lock has instead of its own.
+mod fault;
+mod laws;
+mod setting;
+
+ghost use Rattle.layers.specs.Numbers.{EachOnce};
+
+pub use fault::NamesFault;
+pub use laws::names_have_each_number_once;
+use locks::sets::LOCKS;
+
+// So many names there are.
+pub const NAMES: usize = LOCKS as usize;
+
+// The number at place k is the one that lock k has. The numbers 0 to 7 stand there, each once.
+#[derive(Clone, Copy, Debug, PartialEq, Eq)]
+pub struct Names {
+    numbers: [u8; NAMES],
+    ghost each_once: { EachOnce numbers },
+}

@@ -1,0 +1,54 @@
+ghost use Rattle.std.specs.Prelude.{◌≡◌, length};
+ghost use Rattle.locks.specs.Limits.{lock_limit};
+ghost use Rattle.layers.specs.Numbers.{in_order, number_of};
+ghost use Rattle.layers.specs.Naming.{numbers_in, NumbersSay, NamesSet};
+
+use crate::names::{NAMES, Names, NamesFault};
+use locks::sets::{LOCKS, LockSet};
+
+impl Names {
+    // Each lock keeps its own number.
+    pub fn new() -> Names
+        ensures { numbers_in result ≡ in_order }
+    {
+        Names {
+            numbers: [0, 1, 2, 3, 4, 5, 6, 7],
+        }
+    }
+
+    // The numbers are checked before any name changes.
+    pub fn set(&mut self, numbers: [u8; NAMES]) -> Result<(), NamesFault>
+        ensures { NamesSet numbers (numbers_in self.old) result (numbers_in self.new) }
+    {
+        check(&numbers)?;
+        self.numbers = numbers;
+        Ok(())
+    }
+
+    pub fn numbers(self) -> [u8; NAMES]
+        ensures { result ≡ numbers_in self }
+    {
+        self.numbers
+    }
+
+    // The number that the lock has; what is no lock keeps its own.
+    pub fn number(self, lock: u8) -> u8
+        ensures { result ≡ number_of (numbers_in self) lock }
+    {
+        self.numbers.get(usize::from(lock)).copied().unwrap_or(lock)
+    }
+}
+
+fn check(numbers: &[u8]) -> Result<(), NamesFault>
+    requires { length numbers.now ≡ lock_limit }
+    ensures { NumbersSay numbers.now result }
+{
+    let mut seen = LockSet::none();
+    for (at, number) in numbers.iter().enumerate() {
+        if *number >= LOCKS || seen.has(*number) {
+            return Err(NamesFault { at });
+        }
+        seen = seen.with(*number);
+    }
+    Ok(())
+}

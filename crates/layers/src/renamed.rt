@@ -1,0 +1,15 @@
+// A graph whose locks are renamed.
+mod laws;
+mod questions;
+
+ghost use Rattle.std.specs.Prelude.{◌≡◌};
+
+use crate::names::Names;
+pub use laws::{renamed_graphs_mean_what_is_renamed, renaming_changes_locks_alone};
+
+// The graph beneath, with the number of each lock in place of the lock. Both parts may be changed at any time.
+#[derive(Drop)]
+pub struct Renamed<G> {
+    pub graph: G,
+    pub names: Names,
+}
