@@ -2,6 +2,8 @@
 mod fault;
 mod laws;
 mod setting;
+#[cfg(test)]
+mod tests;
 
 ghost use Rattle.layers.specs.Numbers.{EachOnce};
 

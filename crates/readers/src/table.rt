@@ -5,6 +5,8 @@ mod laws;
 mod place;
 mod record;
 mod row;
+#[cfg(test)]
+mod tests;
 
 pub use fault::TableFault;
 pub use laws::tables_say_one_graph;
