@@ -1,9 +1,7 @@
 -- Numbers below n, as many as n and no two the same: each number below n is among them.
-use Rattle.std.proofs.Common.{◌≡◌, ℕ, zero, suc, ◌<◌, ◌≤◌, ◌⊎◌, cond, eqb, ltb, true, false, sym, refl, ap, ◌∙◌, inl, inr, ⊎_elim, arith}
-use Rattle.std.proofs.lemmas.Bool.{cases_Bool, cond-true, cond-false, cases_lt, lt-ltb, le-ltb}
+use Rattle.std.proofs.Common.{◌≡◌, ℕ, zero, suc, ◌<◌, ◌≤◌, ◌⊎◌, cond, eqb, ltb, sym, ap, ◌∙◌, inl, inr, ⊎_elim, arith}
+use Rattle.std.proofs.lemmas.Bool.{cond-true, cond-false, cases_lt, lt-ltb, le-ltb}
 use Rattle.std.proofs.lemmas.Bool.Decides.{eqb_tells}
-use Rattle.locks.specs.Limits.{lock_limit}
-use Rattle.layers.specs.Numbers.{EachOnce, number_at}
 
 -- f of the numbers below n are below m, and no two of them are the same
 pub record Places (n m : ℕ) (f : ℕ → ℕ) : Type 0 where

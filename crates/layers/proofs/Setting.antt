@@ -1,5 +1,5 @@
 -- Which numbers are accepted as names.
-use Rattle.std.proofs.Common.{◌≡◌, ℕ, zero, suc, ◌+◌, ◌<◌, ◌≤◌, ◌⊎◌, cond, eqb, ltb, true, false, List, length, get_or, Ok, Err, Result, sym, refl, ap, ◌∙◌, inl, inr, ⊎_elim, arith}
+use Rattle.std.proofs.Common.{◌≡◌, ℕ, ◌+◌, ◌<◌, ◌≤◌, cond, ltb, true, false, List, length, Ok, Err, Result, sym, refl, ap, subst, ◌∙◌, inl, inr, ⊎_elim, arith}
 use Rattle.std.proofs.lemmas.Bool.{cond-true, cases_lt, cases_order, lt-ltb}
 use Rattle.std.proofs.lemmas.Bool.Decides.{eqb_tells}
 use Rattle.std.proofs.lemmas.List.{get_or_default}
@@ -7,11 +7,10 @@ use Rattle.locks.specs.declared.sets.LockSet.{LockSet}
 use Rattle.locks.specs.Limits.{lock_limit}
 use Rattle.locks.specs.Sets.{none, has, add}
 use Rattle.locks.proofs.SetLaws.{has_none, has_add_same, has_add_other}
-use Rattle.layers.specs.declared.names.Names.{Names}
 use Rattle.layers.specs.declared.names.fault.NamesFault.{NamesFault}
-use Rattle.layers.specs.Naming.{FirstWrong, NumbersSay, Has, NamesHaveEachNumberOnce, numbers_in}
+use Rattle.layers.specs.Naming.{FirstWrong, NumbersSay, NamesHaveEachNumberOnce, numbers_in}
 use Rattle.layers.specs.Numbers.{EachOnce, Wrong, number_at, number_of}
-use Rattle.layers.proofs.EachOnce.{Places, each_there}
+use Rattle.layers.proofs.EachOnce.{each_there}
 
 -- none of the numbers before this place is wrong
 abbrev pub Right : List ℕ → ℕ → Type 0
@@ -75,17 +74,12 @@ apart ns right j k h i e =
     (λ q. absurd (right j h (inr (k, q, sym e)))))
     (cases_order j k)
 
-pub each_once : (ns : List ℕ) → length ns ≡ lock_limit → Right ns lock_limit → EachOnce ns
-each_once ns many right = record { as_many = many; locks = known ns right; apart = apart ns right }
+pub each_once : (ns : List ℕ) → length ns ≡ lock_limit → Right ns (length ns) → EachOnce ns
+each_once ns many right =
+    let all = subst (Right ns) many right in
+    record { as_many = many; locks = known ns all; apart = apart ns all }
 
 -- at most one answer's condition holds
-
-all_right : (ns : List ℕ) → EachOnce ns → (k : ℕ) → k < lock_limit → Wrong ns k → ⊥
-all_right ns e k h (inl w) = let low = e.locks k h in omega arith
-all_right ns e k h (inr w) = let low = w.1 in let same = e.apart w.0 k (omega arith) h w.2 in omega arith
-
-no_fault : {X : Type 0} (ns : List ℕ) (i : ℕ) → EachOnce ns → FirstWrong ns i → X
-no_fault ns i e f = let many = e.as_many in let h = f.there in absurd (all_right ns e i (omega arith) f.wrong)
 
 one_place : (ns : List ℕ) (i j : ℕ) → FirstWrong ns i → FirstWrong ns j → i ≡ j
 one_place ns i j f g =
@@ -95,8 +89,8 @@ one_place ns i j f g =
 
 pub one_answer : (ns : List ℕ) (q r : Result (Unit {0}) NamesFault) → NumbersSay ns q → NumbersSay ns r → q ≡ r
 one_answer ns (Ok u) (Ok v) a b = refl
-one_answer ns (Ok u) (Err f) a b = no_fault ns f.at a b
-one_answer ns (Err f) (Ok v) a b = no_fault ns f.at b a
+one_answer ns (Ok u) (Err f) a b = absurd (a f.at b.there b.wrong)
+one_answer ns (Err f) (Ok v) a b = absurd (b f.at a.there a.wrong)
 one_answer ns (Err f) (Err g) a b = ap (λ k. Err (record { at = k })) (one_place ns f.at g.at a b)
 
 -- names hold each number once

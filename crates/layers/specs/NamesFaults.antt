@@ -1,5 +1,4 @@
 -- The refusal of names.
-use Rattle.std.specs.Prelude.{ℕ}
 use Rattle.locks.specs.declared.refusals.Part.TheVariants.{Names}
 use Rattle.locks.specs.declared.refusals.Refusal.{Refusal}
 use Rattle.layers.specs.declared.names.fault.NamesFault.{NamesFault}

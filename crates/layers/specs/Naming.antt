@@ -3,7 +3,7 @@ use Rattle.std.specs.Prelude.{◌≡◌, ℕ, ◌<◌, List, length, Ok, Err, Re
 use Rattle.locks.specs.Limits.{lock_limit}
 use Rattle.layers.specs.declared.names.Names.{Names}
 use Rattle.layers.specs.declared.names.fault.NamesFault.{NamesFault}
-use Rattle.layers.specs.Numbers.{EachOnce, Wrong, number_of}
+use Rattle.layers.specs.Numbers.{Wrong, number_of}
 
 abbrev pub numbers_in : Names → List ℕ
 numbers_in n = n.numbers
@@ -16,7 +16,7 @@ pub record FirstWrong (ns : List ℕ) (i : ℕ) : Type 0 where
 
 -- the condition of each answer
 abbrev pub NumbersSay : List ℕ → Result (Unit {0}) NamesFault → Type 0
-NumbersSay ns (Ok u) = EachOnce ns
+NumbersSay ns (Ok u) = (k : ℕ) → k < length ns → Wrong ns k → ⊥
 NumbersSay ns (Err f) = FirstWrong ns f.at
 
 -- the numbers afterwards: those given, or those that stood there before

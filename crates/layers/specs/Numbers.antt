@@ -1,5 +1,5 @@
 -- The numbers that locks may be given.
-use Rattle.std.specs.Prelude.{◌≡◌, ℕ, ◌<◌, ◌≤◌, ◌⊎◌, List, [], ◌∷◌, length, slice_index_or, Ok, Err, Result}
+use Rattle.std.specs.Prelude.{◌≡◌, ℕ, ◌<◌, ◌≤◌, ◌⊎◌, List, [], ◌∷◌, length, slice_index_or}
 use Rattle.locks.specs.Limits.{lock_limit}
 
 abbrev pub number_at : List ℕ → ℕ → ℕ

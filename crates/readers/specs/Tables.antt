@@ -1,11 +1,11 @@
 -- What the place of an edge table holds, before and after a reading.
-use Rattle.std.specs.Prelude.{◌≡◌, ℕ, List, Ok, Err, Result, vec_items}
+use Rattle.std.specs.Prelude.{◌≡◌, ℕ, List, [], ◌∷◌, Ok, Err, Result, vec_items}
 use Rattle.locks.specs.Graphs.{Graph, Bounded}
 use Rattle.readers.specs.declared.table.fault.TableFault.{TableFault}
 use Rattle.readers.specs.declared.table.place.EdgeTable.{EdgeTable}
 use Rattle.readers.specs.declared.table.record.Record.{Record}
 use Rattle.readers.specs.Records.{Table}
-use Rattle.readers.specs.Rows.{rows_graph, bare}
+use Rattle.readers.specs.Rows.{rows_graph}
 use Rattle.readers.specs.TableRefusals.{TableSays}
 
 abbrev pub table_graph : EdgeTable → Graph
@@ -13,7 +13,7 @@ table_graph t = rows_graph t.start (vec_items t.rows)
 
 -- one location without steps
 abbrev pub bare_graph : Graph
-bare_graph = record { start = 0; steps = bare 1 }
+bare_graph = record { start = 0; steps = [] ∷ [] }
 
 -- what the place means afterwards: what the records say, or what it meant before
 abbrev pub Holds : ℕ → ℕ → List Record → Graph → Result (Unit {0}) TableFault → Graph → Type 0

@@ -3,6 +3,7 @@
 #![tactic(auto)]
 
 mod sequence;
+mod tables;
 mod threads;
 
 use locks::sets::LockSet;
@@ -32,7 +33,8 @@ fn run(rt: &HostRuntime) -> anyhow::Result<()> {
     heavy(rt)?;
     entries_at(rt, &threads::TWO_WAYS, 5)?;
     replays(rt)?;
-    sequence::sequence(rt)
+    sequence::sequence(rt)?;
+    tables::tables(rt)
 }
 
 fn replays(rt: &HostRuntime) -> anyhow::Result<()> {

@@ -12,7 +12,7 @@ use std::alloc::Global;
 use std::io;
 
 // What stands in the lists before an ask, so that a place that was written can be told from one that was not.
-const BLANK: u16 = 999;
+pub(crate) const BLANK: u16 = 999;
 
 pub(crate) fn sequence(rt: &HostRuntime) -> anyhow::Result<()> {
     let heap = rt.alloc();

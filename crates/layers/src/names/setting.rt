@@ -1,5 +1,4 @@
-ghost use Rattle.std.specs.Prelude.{◌≡◌, length};
-ghost use Rattle.locks.specs.Limits.{lock_limit};
+ghost use Rattle.std.specs.Prelude.{◌≡◌};
 ghost use Rattle.layers.specs.Numbers.{in_order, number_of};
 ghost use Rattle.layers.specs.Naming.{numbers_in, NumbersSay, NamesSet};
 
@@ -25,10 +24,10 @@ impl Names {
         Ok(())
     }
 
-    pub fn numbers(self) -> [u8; NAMES]
-        ensures { result ≡ numbers_in self }
+    pub fn numbers(&self) -> &[u8; NAMES]
+        ensures { result.now ≡ numbers_in self.now }
     {
-        self.numbers
+        &self.numbers
     }
 
     // The number that the lock has; what is no lock keeps its own.
@@ -39,8 +38,8 @@ impl Names {
     }
 }
 
+// The first number that is no lock, or that stood before, is the fault.
 fn check(numbers: &[u8]) -> Result<(), NamesFault>
-    requires { length numbers.now ≡ lock_limit }
     ensures { NumbersSay numbers.now result }
 {
     let mut seen = LockSet::none();

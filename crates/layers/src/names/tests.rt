@@ -15,7 +15,7 @@ fn each_number_stands_once(rt: HostRuntime) -> Result<(), Fail> {
     ] {
         assert_eq!(rt; names.set(numbers), Err(NamesFault { at }));
     }
-    assert_eq!(rt; names.numbers(), turned);
+    assert_eq!(rt; *names.numbers(), turned);
     assert_eq!(rt; NamesFault { at: 3 }.refusal().number, 12);
     Ok(())
 }
