@@ -1,20 +1,17 @@
-// Summaries and replays of worked threads, and a sequence of calls on two folders. With an argument, how long
-// summaries of the heavy ones take.
+// Summaries and replays of worked threads, a sequence of calls on two folders, and edge tables. With an argument, how
+// long summaries of heavy threads take.
 #![tactic(auto)]
 
 mod sequence;
 mod tables;
 mod threads;
+mod timing;
 
 use locks::sets::LockSet;
 use readers::listing::Listing;
 use search::folders::{Folder, Room};
 use search::threads::{Pair, TwoThreads};
 use std::env;
-use std::time::Instant;
-
-// How often a summary is made to time it.
-const ROUNDS: u32 = 2000;
 
 fn main(rt: HostRuntime) -> anyhow::Result<()> {
     run(&rt)
@@ -22,7 +19,7 @@ fn main(rt: HostRuntime) -> anyhow::Result<()> {
 
 fn run(rt: &HostRuntime) -> anyhow::Result<()> {
     if env::args(rt)?.count() > 1 {
-        return times(rt);
+        return timing::times(rt);
     }
     count(rt, "two ways", &threads::TWO_WAYS)?;
     count(rt, "outer lock given first", &threads::OUTER_GIVEN_FIRST)?;
@@ -124,33 +121,5 @@ fn entries_at(rt: &HostRuntime, bytes: &[u8], location: u32) -> anyhow::Result<(
         }
         println!(rt; "")?;
     }
-    Ok(())
-}
-
-// Not the threads of the list above, and by names that are one word each, as a table of times reads them.
-fn times(rt: &HostRuntime) -> anyhow::Result<()> {
-    let heap = rt.alloc();
-    time(
-        rt,
-        "four-ways",
-        threads::four_ways(heap, 2, 254)?.as_slice(),
-    )?;
-    time(rt, "wide", threads::wide(heap)?.as_slice())?;
-    time(rt, "crowded", threads::crowded(heap, 5, 16)?.as_slice())?;
-    time(rt, "tangled", &threads::TANGLED)?;
-    time(rt, "too-crowded", threads::crowded(heap, 7, 1)?.as_slice())
-}
-
-// Nanoseconds for one summary, on the average, and the number of its states: 0 where it is refused, as the table of
-// times has it.
-fn time(rt: &HostRuntime, name: &str, bytes: &[u8]) -> anyhow::Result<()> {
-    let mut folder = folder(rt, bytes)?;
-    let start = Instant::now(rt)?;
-    let mut states = 0;
-    for _ in 0..ROUNDS {
-        states = folder.summarise().unwrap_or(0);
-    }
-    let nanos = start.elapsed(rt)?.as_nanos() / u128::from(ROUNDS);
-    println!(rt; "{name} {nanos} {states}")?;
     Ok(())
 }

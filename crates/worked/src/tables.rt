@@ -135,7 +135,12 @@ fn rows(heap: Global, rows: &[Row]) -> anyhow::Result<Vec<Record>> {
     Ok(records)
 }
 
-fn read(heap: Global, locations: u16, start: u16, records: &[Record]) -> anyhow::Result<EdgeTable> {
+pub(crate) fn read(
+    heap: Global,
+    locations: u16,
+    start: u16,
+    records: &[Record],
+) -> anyhow::Result<EdgeTable> {
     let mut table = EdgeTable::new(heap)?;
     if let Err(fault) = table.read(locations, start, records) {
         anyhow::bail!("{}", fault.refusal());
@@ -145,7 +150,12 @@ fn read(heap: Global, locations: u16, start: u16, records: &[Record]) -> anyhow:
 
 // The graph of a listing as an edge table, by its answers: `before` locations without steps in front, and at each
 // location `idle` steps first that give back what is never taken.
-fn table(heap: Global, bytes: &[u8], idle: u8, before: u16) -> anyhow::Result<EdgeTable> {
+pub(crate) fn table(
+    heap: Global,
+    bytes: &[u8],
+    idle: u8,
+    before: u16,
+) -> anyhow::Result<EdgeTable> {
     let listing = threads::listing(heap, bytes)?;
     let mut records = Vec::new(heap);
     // Step by step and not location by location: the order of records matters at each location alone.
