@@ -27,7 +27,7 @@ pub(crate) fn times(rt: &HostRuntime) -> anyhow::Result<()> {
 fn time(rt: &HostRuntime, name: &str, bytes: &[u8]) -> anyhow::Result<()> {
     let heap = rt.alloc();
     let (listed, states) = timed(rt, threads::listing(heap, bytes)?)?;
-    let (tabled, _) = timed(rt, tables::table(heap, bytes, 0, 0)?)?;
+    let (tabled, _) = timed(rt, threads::table(heap, bytes, &[], 0)?)?;
     println!(rt; "{name} {listed} {states} {tabled}")?;
     Ok(())
 }
@@ -46,8 +46,8 @@ fn one_location(rt: &HostRuntime) -> anyhow::Result<()> {
             })?;
         }
     }
-    let (tabled, states) = timed(rt, tables::read(heap, 1, 0, records.as_slice())?)?;
-    println!(rt; "one-location {tabled} {states} {tabled}")?;
+    let (tabled, states) = timed(rt, threads::read(heap, 1, 0, records.as_slice())?)?;
+    println!(rt; "one-location - {states} {tabled}")?;
     Ok(())
 }
 
