@@ -1,0 +1,41 @@
+-- What one section adds to a review.
+use Rattle.std.specs.Prelude.{◌≡◌, ℕ, List, [], ◌∷◌, ◌++◌, Ok, Err, Result}
+use Rattle.layers.specs.declared.names.fault.NamesFault.{NamesFault}
+use Rattle.layers.specs.Naming.{NamesSet}
+use Rattle.layers.specs.Numbers.{in_order}
+use Rattle.readers.specs.declared.listing.fault.ListingFault.{ListingFault}
+use Rattle.readers.specs.Place.{answer_of, commands_after}
+use Rattle.readers.specs.Reading.{listing}
+use Rattle.search.specs.declared.threads.Pair.{Pair}
+use Rattle.review.specs.declared.file.fault.FileFault.{FileFault}
+use Rattle.review.specs.declared.file.fault.FileFault.TheVariants.{InLeft, InRight, InNames}
+use Rattle.review.specs.declared.file.section.Section.{Section}
+use Rattle.review.specs.declared.file.section.Section.TheVariants as code
+use Rattle.review.specs.Reviews.{Meaning}
+
+-- there are no pairs yet, and no names but those in order
+abbrev pub Emptied : Meaning → Type 0
+Emptied m = (m.numbers ≡ in_order) × (m.pairs ≡ [])
+
+-- what was filled in, or the fault that came in its way
+abbrev pub filled : Result (Unit {0}) FileFault → Meaning → Result Meaning FileFault
+filled (Ok u) m = Ok m
+filled (Err f) m = Err f
+
+-- a fault is carried whole
+abbrev pub carried : {F : Type 0} → (F → FileFault) → Result (Unit {0}) F → Result (Unit {0}) FileFault
+carried as_file (Ok u) = Ok u
+carried as_file (Err f) = Err (as_file f)
+
+abbrev pub Entered : Section → Meaning → Result (Unit {0}) FileFault → Meaning → Type 0
+Entered (code.Left bytes place) m r n =
+    (r ≡ carried (λ f. InLeft f place) (answer_of (listing bytes.now)))
+    × (n ≡ record m { lefts = commands_after (listing bytes.now) m.lefts })
+Entered (code.Right bytes place) m r n =
+    (r ≡ carried (λ f. InRight f place) (answer_of (listing bytes.now)))
+    × (n ≡ record m { rights = commands_after (listing bytes.now) m.rights })
+Entered (code.Rename numbers place) m r n =
+    (s : Result (Unit {0}) NamesFault) × (r ≡ carried (λ f. InNames f place) s)
+    × NamesSet numbers.now m.numbers s n.numbers × (n ≡ record m { numbers = n.numbers })
+Entered (code.Pair a b) m r n = (r ≡ Ok tt) × (n ≡ record m { pairs = m.pairs ++ record { left = a; right = b } ∷ [] })
+Entered code.End m r n = (r ≡ Ok tt) × (n ≡ m)

@@ -1,0 +1,63 @@
+-- The lines of a report, byte by byte.
+use Rattle.std.specs.Prelude.{◌≡◌, ℕ, ◌-◌, ◌^◌, ◌<◌, ◌≤◌, cond, List, [], ◌∷◌, ◌++◌, length, drop, codes, min, Ok, Err, Result, nat_lt}
+use Rattle.std.specs.Fmt.{decimal}
+use Rattle.std.specs.List.{flat_map}
+use Rattle.search.specs.declared.threads.Pair.{Pair}
+use Rattle.review.specs.declared.file.fault.Within.{Within}
+use Rattle.review.specs.declared.file.fault.Within.TheVariants as where_
+use Rattle.review.specs.declared.lines.fault.LineFault.{LineFault}
+use Rattle.review.specs.declared.lines.line.Line.{Line}
+use Rattle.review.specs.declared.lines.line.Line.TheVariants.{Reached, Never, Missing, Refused}
+
+-- a newline
+abbrev pub newline : List ℕ
+newline = 10 ∷ []
+
+-- both locations, each with a space behind it
+abbrev pub pair_text : Pair → List ℕ
+pair_text p = ((decimal p.left ++ codes " ") ++ decimal p.right) ++ codes " "
+
+-- L and the move, or R and the move less 256, behind a space
+abbrev pub move_text : ℕ → List ℕ
+move_text m = cond (nat_lt m 256) (codes " L" ++ decimal m) (codes " R" ++ decimal (m - 256))
+
+abbrev pub moves_text : List ℕ → List ℕ
+moves_text ms = flat_map move_text ms
+
+abbrev pub within_name : Within → List ℕ
+within_name where_.Left = codes "left"
+within_name where_.Right = codes "right"
+within_name where_.Names = codes "names"
+within_name where_.File = codes "file"
+
+abbrev pub reached_text : Pair → List ℕ → List ℕ
+reached_text p ms = (((pair_text p ++ codes "reached ") ++ decimal (length ms)) ++ codes ":") ++ moves_text ms
+
+abbrev pub refused_text : ℕ → ℕ → Within → List ℕ
+refused_text number place within =
+    ((((codes "refused " ++ decimal number) ++ codes " at ") ++ decimal place) ++ codes " in ") ++ within_name within
+
+-- what a line says, without its newline
+abbrev pub said : Line → List ℕ
+said (Reached p ms) = reached_text p ms.now
+said (Never p) = pair_text p ++ codes "never"
+said (Missing p) = pair_text p ++ codes "refused 17"
+said (Refused number place within) = refused_text number place within
+
+abbrev pub line_text : Line → List ℕ
+line_text l = said l ++ newline
+
+-- a number that is too large to be counted is told as the largest
+abbrev pub counted : ℕ → ℕ
+counted n = min n (2 ^ 64 - 1)
+
+-- The text stands at the front of the space, up to `at`, where it fits, and the rest is as it was before.
+pub record Filled (before text after : List ℕ) (at : ℕ) : Type 0 where
+  pub long : length after ≡ length before
+  pub end : at ≡ counted (length text)
+  pub fits : length text ≤ length before → after ≡ text ++ drop (length text) before
+
+-- the line is written and its length answered, or the space is too little and stays as it was
+abbrev pub LineWritten : List ℕ → List ℕ → Result ℕ LineFault → List ℕ → Type 0
+LineWritten text before (Ok n) after = (length text ≤ length before) × (n ≡ length text) × (after ≡ text ++ drop (length text) before)
+LineWritten text before (Err f) after = (length before < length text) × (f.needed ≡ counted (length text)) × (after ≡ before)

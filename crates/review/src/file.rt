@@ -1,0 +1,19 @@
+// A review file: LEFT and RIGHT with a listing each, at most one RENAME, any number of PAIR, and END.
+mod fault;
+mod kind;
+mod laws;
+mod phase;
+mod reader;
+mod review;
+mod section;
+mod taking;
+
+pub use fault::{FileFault, Within};
+pub use laws::files_read_back;
+pub use phase::Phase;
+pub use reader::Reader;
+pub use review::Review;
+pub use section::Section;
+
+// A file has at most so many bytes.
+pub const MOST_BYTES: usize = 32768;

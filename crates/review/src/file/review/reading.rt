@@ -1,0 +1,108 @@
+ghost use Rattle.std.specs.Prelude.{◌≡◌, ◌<◌, length, IfOk};
+ghost use Rattle.layers.specs.Naming.{numbers_in, NamesSet};
+ghost use Rattle.review.specs.Commands.{Sized};
+ghost use Rattle.review.specs.Entering.{Emptied, Entered, filled};
+ghost use Rattle.review.specs.Limits.{most_pairs};
+ghost use Rattle.review.specs.Reviews.{review_of, blank, FileSays, FileRead};
+ghost use Rattle.review.specs.Sections.{command_of};
+
+use crate::file::review::Review;
+use crate::file::{FileFault, MOST_BYTES, Reader, Section};
+use layers::names::{NAMES, Names, NamesFault};
+use layers::renamed::Renamed;
+use readers::listing::Listing;
+use search::threads::Pair;
+use std::alloc::{AllocError, Global};
+
+// No file has more pairs than this: each takes five bytes.
+const MOST_PAIRS: usize = MOST_BYTES / 5 + 1;
+
+impl Review {
+    // All memory is had here. Both threads begin as one location without steps, and there are no pairs.
+    pub fn blank(heap: Global) -> Result<Review, AllocError>
+        ensures { IfOk result (λ r. review_of r ≡ blank) }
+    {
+        Ok(Review {
+            left: Listing::new(heap)?,
+            right: Renamed::new(Listing::new(heap)?),
+            pairs: Vec::with_capacity(heap, MOST_PAIRS)?,
+        })
+    }
+
+    // What the file says, in the room of this review, whatever it held before. Where the file is refused the room is
+    // let go.
+    pub fn read(mut self, file: &[u8]) -> Result<Review, FileFault>
+        ensures { FileRead file.now result }
+    {
+        self.empty();
+        self.fill(file)?;
+        Ok(self)
+    }
+
+    // No pairs, and names in order; the listings are read anew in any case.
+    fn empty(&mut self)
+        ensures { Emptied (review_of self.new) }
+    {
+        self.right.names = Names::new();
+        self.pairs.clear();
+    }
+
+    fn fill(&mut self, file: &[u8]) -> Result<(), FileFault>
+        requires { Emptied (review_of self.old) }
+        ensures { FileSays file.now (filled result (review_of self.new)) }
+    {
+        let mut reader = Reader::new(file)?;
+        while let Some(section) = reader.next_section()? {
+            self.enter(section)?;
+        }
+        Ok(())
+    }
+
+    fn enter(&mut self, section: Section) -> Result<(), FileFault>
+        requires room { length (review_of self.old).pairs < most_pairs }
+        requires sized { Sized (command_of section) }
+        ensures { Entered section.entry (review_of self.old) result (review_of self.new) }
+    {
+        match section {
+            Section::Left { bytes, place } => self
+                .left
+                .read(bytes)
+                .map_err(|fault| FileFault::InLeft { fault, place }),
+            Section::Right { bytes, place } => self
+                .right
+                .graph
+                .read(bytes)
+                .map_err(|fault| FileFault::InRight { fault, place }),
+            Section::Rename { numbers, place } => rename(&mut self.right.names, numbers).map_err(
+                |fault| FileFault::InNames { fault, place },
+            ),
+            Section::Pair { left, right } => {
+                self.pairs.push_reserved(Pair {
+                    left: u32::from(left),
+                    right: u32::from(right),
+                });
+                Ok(())
+            }
+            Section::End => Ok(()),
+        }
+    }
+
+    // The left thread, the right thread, and the pairs.
+    pub fn into_parts(self) -> (Listing, Renamed<Listing>, Vec<Pair>)
+        ensures left { result.0 ≡ self.left }
+        ensures right { result.1 ≡ self.right }
+        ensures pairs { result.2 ≡ self.pairs }
+    {
+        (self.left, self.right, self.pairs)
+    }
+}
+
+// The eight numbers of a renaming.
+fn rename(names: &mut Names, numbers: &[u8]) -> Result<(), NamesFault>
+    requires { length numbers.now ≡ 8 }
+    ensures { NamesSet numbers.now (numbers_in names.old) result (numbers_in names.new) }
+{
+    let mut eight = [0; NAMES];
+    eight.copy_from_slice(numbers);
+    names.set(eight)
+}

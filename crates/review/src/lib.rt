@@ -1,0 +1,5 @@
+// Review files: two threads and the pairs of locations to be judged, in one run of bytes.
+#![tactic(auto)]
+
+pub mod file;
+pub mod lines;

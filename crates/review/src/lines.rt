@@ -1,0 +1,10 @@
+// The lines of a report.
+mod fault;
+mod laws;
+mod line;
+mod putting;
+mod writing;
+
+pub use fault::LineFault;
+pub use laws::digits_are_their_numbers;
+pub use line::Line;

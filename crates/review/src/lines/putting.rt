@@ -1,0 +1,48 @@
+// Puts texts one behind another into lent space, as long as they fit, and counts their bytes in any case.
+ghost use Rattle.std.specs.Prelude.{◌++◌, ℕ, List};
+ghost use Rattle.std.specs.Fmt.{decimal};
+ghost use Rattle.review.specs.Lines.{move_text, moves_text, Filled};
+
+use itoa::Buffer;
+
+// A move below this is the left thread's.
+const RIGHT: u16 = 256;
+
+// The bytes from `at` on, and where they end.
+pub(crate) fn put(space: &mut [u8], at: usize, bytes: &[u8]) -> usize
+    ensures { (before text : List ℕ) → Filled before text space.old at → Filled before (text ++ bytes.now) space.new result }
+{
+    let end = at.saturating_add(bytes.len());
+    if end <= space.len() {
+        space[at..end].copy_from_slice(bytes);
+    }
+    end
+}
+
+pub(crate) fn put_number(space: &mut [u8], at: usize, number: u64) -> usize
+    ensures { (before text : List ℕ) → Filled before text space.old at → Filled before (text ++ decimal number) space.new result }
+{
+    put(space, at, Buffer::new().format(number).as_bytes())
+}
+
+fn put_move(space: &mut [u8], at: usize, number: u16) -> usize
+    ensures { (before text : List ℕ) → Filled before text space.old at → Filled before (text ++ move_text number) space.new result }
+{
+    if number < RIGHT {
+        let end = put(space, at, b" L");
+        put_number(space, end, u64::from(number))
+    } else {
+        let end = put(space, at, b" R");
+        put_number(space, end, u64::from(number - RIGHT))
+    }
+}
+
+pub(crate) fn put_moves(space: &mut [u8], at: usize, moves: &[u16]) -> usize
+    ensures { (before text : List ℕ) → Filled before text space.old at → Filled before (text ++ moves_text moves.now) space.new result }
+{
+    let mut end = at;
+    for number in moves {
+        end = put_move(space, end, *number);
+    }
+    end
+}
