@@ -1,13 +1,14 @@
 -- What a renaming changes.
-use Rattle.std.proofs.Common.{◌≡◌, ℕ, zero, suc, List, [], ◌∷◌, map, Option, sym, refl, ap, ◌∙◌}
+use Rattle.std.proofs.Common.{◌≡◌, ℕ, zero, suc, List, [], ◌∷◌, map, length, Option, sym, refl, ap, ◌∙◌}
 use Rattle.std.specs.Option.{option_map}
+use Rattle.std.proofs.lemmas.List.{length-map}
 use Rattle.locks.specs.declared.steps.Kind.{Kind}
 use Rattle.locks.specs.declared.steps.Kind.TheVariants.{Plain, Take, Give}
 use Rattle.locks.specs.declared.steps.Step.{Step}
-use Rattle.locks.specs.Graphs.{Graph, step_at}
+use Rattle.locks.specs.Graphs.{Graph, steps_at, step_at}
 use Rattle.layers.specs.Numbers.{number_of, in_order}
-use Rattle.layers.specs.Renaming.{renamed_lock, renamed_step, renamed_graph, RenamingChangesLocksAlone}
-use Rattle.layers.specs.RenamingLaws.{renamed_locations, renamed_step_at}
+use Rattle.layers.specs.Renaming.{renamed_lock, renamed_step, renamed_graph, IsRenamed, RenamingChangesLocksAlone}
+use Rattle.layers.specs.RenamingLaws.{renamed_locations, renamed_steps, renamed_step_at}
 
 own_number : (k : ℕ) → number_of in_order k ≡ k
 own_number zero = refl
@@ -35,11 +36,17 @@ map_same f h (x ∷ xs) = ap (λ y. y ∷ map f xs) (h x) ∙ ap (λ ys. x ∷ y
 in_order_same : (G : Graph) → renamed_graph in_order G ≡ G
 in_order_same G = ap (λ xs. record { start = G.start; steps = xs }) (map_same (map (renamed_step in_order)) (map_same (renamed_step in_order) own_step) G.steps)
 
+is_renamed : (ns : List ℕ) (d : Kind) (k to : ℕ) → IsRenamed ns (record { kind = d; lock = k; target = to }) (renamed_step ns (record { kind = d; lock = k; target = to }))
+is_renamed ns Plain k to = record { same_kind = refl; same_target = refl; plain_same = λ e. refl; take_renamed = λ e. cc; give_renamed = λ e. cc }
+is_renamed ns Take k to = record { same_kind = refl; same_target = refl; plain_same = λ e. cc; take_renamed = λ e. refl; give_renamed = λ e. refl }
+is_renamed ns Give k to = record { same_kind = refl; same_target = refl; plain_same = λ e. cc; take_renamed = λ e. refl; give_renamed = λ e. refl }
+
 pub renaming_changes_locks_alone : RenamingChangesLocksAlone
 renaming_changes_locks_alone = record {
   same_start = λ ns G. refl;
   same_locations = renamed_locations;
-  each_step = renamed_step_at;
+  same_count = λ ns G l. ap length (renamed_steps ns G l) ∙ length-map (steps_at G l) (renamed_step ns);
+  each_step = λ ns G l n s is. (renamed_step ns s, renamed_step_at ns G l n ∙ ap (option_map (renamed_step ns)) is, is_renamed ns s.kind s.lock s.target);
   in_order_same = in_order_same;
 }
 

@@ -8,7 +8,7 @@ use Rattle.locks.specs.Limits.{lock_limit}
 use Rattle.locks.specs.Sets.{none, has, add}
 use Rattle.locks.proofs.SetLaws.{has_none, has_add_same, has_add_other}
 use Rattle.layers.specs.declared.names.fault.NamesFault.{NamesFault}
-use Rattle.layers.specs.Naming.{FirstWrong, NumbersSay, NamesHaveEachNumberOnce, numbers_in}
+use Rattle.layers.specs.Naming.{FirstWrong, NumbersAnswer, NamesHaveEachNumberOnce, EachRenamingIsAccepted, numbers_in}
 use Rattle.layers.specs.Numbers.{EachOnce, Wrong, number_at, number_of}
 use Rattle.layers.proofs.EachOnce.{each_there}
 
@@ -87,7 +87,7 @@ one_place ns i j f g =
     (⊎_elim (λ q. absurd (g.right_before i q f.wrong)) (λ q. absurd (f.right_before j q g.wrong)))
     (cases_order i j)
 
-pub one_answer : (ns : List ℕ) (q r : Result (Unit {0}) NamesFault) → NumbersSay ns q → NumbersSay ns r → q ≡ r
+pub one_answer : (ns : List ℕ) (q r : Result (Unit {0}) NamesFault) → NumbersAnswer ns q → NumbersAnswer ns r → q ≡ r
 one_answer ns (Ok u) (Ok v) a b = refl
 one_answer ns (Ok u) (Err f) a b = absurd (a f.at b.there b.wrong)
 one_answer ns (Err f) (Ok v) a b = absurd (b f.at a.there a.wrong)
@@ -107,3 +107,13 @@ names_have_each_number_once n m h =
       (at.1, named ns at.0 once at.1 ∙ at.2),
       λ j has. once.apart j at.0 has.0 at.1 (sym (named ns j once has.0) ∙ has.1 ∙ sym at.2),
     )
+
+none_wrong : (ns : List ℕ) → EachOnce ns → (k : ℕ) → k < lock_limit → Wrong ns k → ⊥
+none_wrong ns e k h (inl big) = let low = e.locks k h in omega arith
+none_wrong ns e k h (inr w) = let lt = w.1 in let same = e.apart w.0 k (omega arith) h w.2 in omega arith
+
+pub each_renaming_is_accepted : EachRenamingIsAccepted
+each_renaming_is_accepted = record {
+  accepted = λ ns e k h. none_wrong ns e k (let many = e.as_many in omega arith);
+  no_other = λ ns many right. each_once ns many right;
+}

@@ -2,6 +2,7 @@
 use Rattle.std.specs.Prelude.{◌≡◌, ℕ, ◌<◌, ◌≤◌, ◌⊎◌, List, [], ◌∷◌, length, slice_index_or}
 use Rattle.locks.specs.Limits.{lock_limit}
 
+-- the number at a place
 abbrev pub number_at : List ℕ → ℕ → ℕ
 number_at ns k = slice_index_or ns k 0
 

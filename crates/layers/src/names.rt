@@ -8,10 +8,10 @@ mod tests;
 ghost use Rattle.layers.specs.Numbers.{EachOnce};
 
 pub use fault::NamesFault;
-pub use laws::names_have_each_number_once;
+pub use laws::{each_renaming_is_accepted, names_have_each_number_once};
 use locks::sets::LOCKS;
 
-// So many names there are.
+// How many names there are: one for each lock.
 pub const NAMES: usize = LOCKS as usize;
 
 // The number at place k is the one that lock k has. The numbers 0 to 7 stand there, each once.

@@ -9,7 +9,7 @@ use Rattle.readers.specs.declared.table.fault.TableFault.{TableFault}
 use Rattle.readers.specs.declared.table.fault.TableFault.TheVariants.{LocationCount, StartMissing, WrongRecord, TooManySteps}
 use Rattle.readers.specs.declared.table.record.Record.{Record}
 use Rattle.readers.specs.Records.{Fits, records_at}
-use Rattle.readers.specs.TableRefusals.{AllFit, AllFew, CountFits, FirstWrong, FirstTooMany, TableSays}
+use Rattle.readers.specs.TableRefusals.{AllFit, AllFew, CountFits, FirstWrong, FirstTooMany, TableAnswers}
 use Rattle.readers.proofs.TableLaws.{room_for}
 
 -- the conditions of two answers exclude each other
@@ -73,7 +73,7 @@ one_too_many rs i j f g =
     (cases_order i j)
 
 -- at most one answer's condition holds
-pub one_answer : (n start : ℕ) (rs : List Record) (q r : Result (Unit {0}) TableFault) → TableSays n start rs q → TableSays n start rs r → q ≡ r
+pub one_answer : (n start : ℕ) (rs : List Record) (q r : Result (Unit {0}) TableFault) → TableAnswers n start rs q → TableAnswers n start rs r → q ≡ r
 one_answer n start rs (Ok u) (Ok v) a b = refl
 one_answer n start rs (Ok u) (Err LocationCount) a b = no_count n a.0 b
 one_answer n start rs (Ok u) (Err StartMissing) a b = no_start n start a.1 b.1

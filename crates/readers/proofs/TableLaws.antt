@@ -1,11 +1,11 @@
 -- Records by location, as a list of them grows, and the graph of a whole table.
-use Rattle.std.proofs.Common.{◌≡◌, ◌≢◌, ℕ, ◌+◌, ◌<◌, ◌≤◌, cond, eqb, List, [], ◌∷◌, ◌++◌, map, length, take, drop, set, get_or, Some, None, Option, sym, refl, ap, subst, ◌∙◌, ⊎_elim, arith, true, false}
-use Rattle.std.specs.Prelude.{All}
+use Rattle.std.proofs.Common.{◌≡◌, ◌≢◌, ℕ, zero, suc, ◌≤◌, ◌+◌, ◌<◌, cond, eqb, List, [], ◌∷◌, ◌++◌, map, length, take, drop, set, get_or, Some, None, Option, sym, refl, ap, subst, ◌∙◌, ⊎_elim, arith, true, false}
+use Rattle.std.specs.Prelude.{All, Ok}
 use Rattle.std.specs.List.{slice_get}
 use Rattle.std.specs.Option.{option_map, is_some}
-use Rattle.std.proofs.lemmas.Bool.{cond-true, cond-false, eq-eqb}
+use Rattle.std.proofs.lemmas.Bool.{cond-true, cond-false, cases_lt, eq-eqb}
 use Rattle.std.proofs.lemmas.Bool.Decides.{eqb_tells}
-use Rattle.std.proofs.lemmas.List.{take_more, take-append-drop, get_or-set_same, get_or-set_other, map-append, append-nil, length-append, length-map, length-set, map-set, get_or-map, ext_get_or}
+use Rattle.std.proofs.lemmas.List.{get_or_past, take_more, take-append-drop, get_or-set_same, get_or-set_other, map-append, append-nil, length-append, length-map, length-set, map-set, get_or-map, ext_get_or}
 use Rattle.std.proofs.lemmas.List.Elements.{filter-append, All-filter, All-push}
 use Rattle.std.proofs.lemmas.Option.{slice_get-get_or, slice_get_within, get_or_from_slice_get, slice_get-map}
 use Rattle.locks.specs.declared.steps.Step.{Step}
@@ -16,11 +16,11 @@ use Rattle.locks.specs.Graphs.{Graph, Bounded, StepFits, locations, steps_at, st
 use Rattle.locks.specs.Limits.{most_locations, most_steps}
 use Rattle.locks.specs.Steps.{kind_number}
 use Rattle.readers.specs.declared.table.record.Record.{Record}
-use Rattle.readers.specs.Records.{Fits, Spells, Table, record_of, records_at}
+use Rattle.readers.specs.Records.{Fits, Spells, TableSays, record_of, records_at}
 use Rattle.readers.specs.declared.table.row.Row.{Row}
 use Rattle.readers.specs.Rows.{RowsSay, row_steps, rows_steps}
 use Rattle.readers.specs.Tables.{TablesSayOneGraph}
-use Rattle.readers.specs.TableRefusals.{AllFit, AllFew, CountFits, FirstTooMany}
+use Rattle.readers.specs.TableRefusals.{AllFit, AllFew, CountFits, FirstTooMany, TableAnswers}
 
 -- one record more
 
@@ -94,19 +94,19 @@ enter n rs steps r s fits is say =
       steps_are = λ l. step_entered l steps rs r s (omega arith) is say.steps_are;
     }
 
-pub table_said : (n start : ℕ) (rs : List Record) (steps : List (List Step)) → RowsSay n rs steps → Table n start rs (record { start = start; steps = steps })
+pub table_said : (n start : ℕ) (rs : List Record) (steps : List (List Step)) → RowsSay n rs steps → TableSays n start rs (record { start = start; steps = steps })
 table_said n start rs steps say = record { locations_are = say.locations_are; start_is = refl; steps_are = say.steps_are }
 
 -- the graph of a whole table is within the bounds
 
-few_there : (n start : ℕ) (rs : List Record) (G : Graph) → AllFew rs → Table n start rs G → (l : ℕ) → length (steps_at G l) ≤ most_steps
+few_there : (n start : ℕ) (rs : List Record) (G : Graph) → AllFew rs → TableSays n start rs G → (l : ℕ) → length (steps_at G l) ≤ most_steps
 few_there n start rs G few t l =
     let long = length-map (steps_at G l) (record_of l) in
     let same = ap length (t.steps_are l) in
     let low = few l in
     omega arith
 
-step_fits : (n start : ℕ) (rs : List Record) (G : Graph) → AllFit n rs → Table n start rs G → (l i : ℕ) (s : Step) → step_at G l i ≡ Some s → StepFits G s
+step_fits : (n start : ℕ) (rs : List Record) (G : Graph) → AllFit n rs → TableSays n start rs G → (l i : ℕ) (s : Step) → step_at G l i ≡ Some s → StepFits G s
 step_fits n start rs G fit t l i s e =
     let within = slice_get_within (steps_at G l) i s e in
     let long = length-map (steps_at G l) (record_of l) in
@@ -125,7 +125,7 @@ step_fits n start rs G fit t l i s e =
       plain_without = λ p. fits.plain_without (ap kind_number p);
     }
 
-pub bounded : (n start : ℕ) (rs : List Record) (G : Graph) → CountFits n → start < n → AllFit n rs → AllFew rs → Table n start rs G → Bounded G
+pub bounded : (n start : ℕ) (rs : List Record) (G : Graph) → CountFits n → start < n → AllFit n rs → AllFew rs → TableSays n start rs G → Bounded G
 bounded n start rs G count low fit few t =
     let many = t.locations_are in
     let begin = t.start_is in
@@ -202,15 +202,76 @@ same_steps l (x ∷ xs) (y ∷ ys) e =
     let rest : map (record_of l) xs ≡ map (record_of l) ys = cc in
     ap (λ z. z ∷ xs) (same_step l x y first) ∙ ap (λ zs. y ∷ zs) (same_steps l xs ys rest)
 
-one_graph : (n start : ℕ) (rs : List Record) (G H : Graph) → Table n start rs G → Table n start rs H → G ≡ H
+one_graph : (n start : ℕ) (rs : List Record) (G H : Graph) → TableSays n start rs G → TableSays n start rs H → G ≡ H
 one_graph n start rs G H t u =
     let starts = t.start_is ∙ sym u.start_is in
     let steps = ext_get_or [] G.steps H.steps (t.locations_are ∙ sym u.locations_are)
     (λ l h. same_steps l (steps_at G l) (steps_at H l) (t.steps_are l ∙ sym (u.steps_are l))) in
     ap (λ s. record { start = s; steps = G.steps }) starts ∙ ap (λ ss. record { start = H.start; steps = ss }) steps
 
+-- a table of which a graph within the bounds is what it says is accepted
+
+unfiltered : (P : Record → Type 0) (l : ℕ) (rs : List Record) → All P (records_at l rs) → (i : ℕ) (d : Record) → i < length rs → (get_or rs i d).from ≡ l → P (get_or rs i d)
+unfiltered P l [] p i d h e = absurd (omega arith)
+unfiltered P l (r ∷ rs) p zero d h e =
+    let here = cond-true (eqb r.from l) (r ∷ records_at l rs) (records_at l rs) (eq-eqb r.from l e) in
+    (subst (All P) here p) 0 d (omega arith)
+unfiltered P l (r ∷ rs) p (suc i) d h e =
+    unfiltered P l rs (⊎_elim
+    (λ q. (λ j c k. (subst (All P) (cond-true (eqb r.from l) (r ∷ records_at l rs) (records_at l rs) q.0) p) (suc j) c (omega arith)))
+    (λ q. subst (All P) (cond-false (eqb r.from l) (r ∷ records_at l rs) (records_at l rs) q.0) p)
+    (eqb_tells r.from l)) i d (omega arith) e
+
+all_map : (P : Record → Type 0) (f : Step → Record) (xs : List Step) → ((i : ℕ) (s : Step) → slice_get xs i ≡ Some s → P (f s)) → All P (map f xs)
+all_map P f [] h i d k = absurd (omega arith)
+all_map P f (x ∷ xs) h zero d k = h 0 x refl
+all_map P f (x ∷ xs) h (suc i) d k = all_map P f xs (λ j s e. h (suc j) s e) i d (omega arith)
+
+known_kind : (d : Kind) → kind_number d ≤ 2
+known_kind Plain = omega arith
+known_kind kind.Take = omega arith
+known_kind kind.Give = omega arith
+
+plain_kind : (d : Kind) → kind_number d ≡ 0 → d ≡ Plain
+plain_kind Plain e = refl
+plain_kind kind.Take e = cc
+plain_kind kind.Give e = cc
+
+location_there : (G : Graph) (l i : ℕ) (s : Step) → step_at G l i ≡ Some s → l < locations G
+location_there G l i s e =
+    let within = slice_get_within (steps_at G l) i s e in
+    ⊎_elim (λ low. low) (λ high. let none = ap length (get_or_past G.steps l [] high) in absurd (omega arith)) (cases_lt l (locations G))
+
+record_fits : (n start : ℕ) (rs : List Record) (G : Graph) → TableSays n start rs G → Bounded G → (l i : ℕ) (s : Step) → step_at G l i ≡ Some s → Fits n (record_of l s)
+record_fits n start rs G t b l i s e =
+    let fits = b.steps_fit l i s e in
+    let many = t.locations_are in
+    let low = location_there G l i s e in
+    let to = fits.target_there in
+    record {
+      from_there = omega arith;
+      to_there = omega arith;
+      kind_known = known_kind s.kind;
+      lock_known = fits.lock_there;
+      plain_without = λ p. fits.plain_without (plain_kind s.kind p);
+    }
+
+accepted : (n start : ℕ) (rs : List Record) (G : Graph) → TableSays n start rs G → Bounded G → TableAnswers n start rs (Ok tt)
+accepted n start rs G t b =
+    let many = t.locations_are in
+    let begin = t.start_is in
+    let some = b.not_empty in
+    let less = b.few_locations in
+    let there = b.start_there in (
+      record { some = omega arith; few = omega arith },
+      (let low : start < n = omega arith in low),
+      (λ i d h. unfiltered (Fits n) (get_or rs i d).from rs (subst (All (Fits n)) (t.steps_are (get_or rs i d).from) (all_map (Fits n) (record_of (get_or rs i d).from) (steps_at G (get_or rs i d).from) (λ j s e. record_fits n start rs G t b (get_or rs i d).from j s e))) i d h refl),
+      (λ l. let long = length-map (steps_at G l) (record_of l) in let same = ap length (t.steps_are l) in let few = b.few_steps l in omega arith),
+    )
+
 pub tables_say_one_graph : TablesSayOneGraph
 tables_say_one_graph = record {
   one = one_graph;
   within = λ n start rs G says t. bounded n start rs G says.0 says.1 says.2 says.3 t;
+  exact = accepted;
 }

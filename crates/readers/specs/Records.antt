@@ -28,7 +28,7 @@ abbrev pub records_at : ℕ → List Record → List Record
 records_at l rs = filter (λ r. r.from == l) rs
 
 -- what a table says of a graph: the steps of each location, written as records, are its records in list order
-pub record Table (n start : ℕ) (rs : List Record) (G : Graph) : Type 0 where
+pub record TableSays (n start : ℕ) (rs : List Record) (G : Graph) : Type 0 where
   pub locations_are : locations G ≡ n
   pub start_is : G.start ≡ start
   pub steps_are : (l : ℕ) → map (record_of l) (steps_at G l) ≡ records_at l rs

@@ -34,10 +34,11 @@ pub record FirstTooMany (rs : List Record) (i : ℕ) : Type 0 where
   pub full : length (records_at it.from (take i rs)) ≡ most_steps
   pub few_before : AllFew (take i rs)
 
--- The condition of each answer. They come in this order: each wants what those before it want.
-abbrev pub TableSays : ℕ → ℕ → List Record → Result (Unit {0}) TableFault → Type 0
-TableSays n start rs (Ok u) = CountFits n × (start < n) × AllFit n rs × AllFew rs
-TableSays n start rs (Err LocationCount) = (n ≡ 0) ⊎ (most_locations < n)
-TableSays n start rs (Err StartMissing) = CountFits n × (n ≤ start)
-TableSays n start rs (Err (WrongRecord i)) = CountFits n × (start < n) × FirstWrong n rs i
-TableSays n start rs (Err (TooManySteps i)) = CountFits n × (start < n) × AllFit n rs × FirstTooMany rs i
+-- The condition of each answer. That of a later fault has in it that no earlier one's holds; that of acceptance, that
+-- none does.
+abbrev pub TableAnswers : ℕ → ℕ → List Record → Result (Unit {0}) TableFault → Type 0
+TableAnswers n start rs (Ok u) = CountFits n × (start < n) × AllFit n rs × AllFew rs
+TableAnswers n start rs (Err LocationCount) = (n ≡ 0) ⊎ (most_locations < n)
+TableAnswers n start rs (Err StartMissing) = CountFits n × (n ≤ start)
+TableAnswers n start rs (Err (WrongRecord i)) = CountFits n × (start < n) × FirstWrong n rs i
+TableAnswers n start rs (Err (TooManySteps i)) = CountFits n × (start < n) × AllFit n rs × FirstTooMany rs i

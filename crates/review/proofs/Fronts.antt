@@ -4,7 +4,7 @@ use Rattle.std.specs.List.{AllByRecursion}
 use Rattle.std.proofs.lemmas.Grind.{flat_map-append}
 use Rattle.std.proofs.lemmas.List.{map-append}
 use Rattle.layers.specs.declared.names.fault.NamesFault.{NamesFault}
-use Rattle.layers.specs.Naming.{NumbersSay, NamesSet}
+use Rattle.layers.specs.Naming.{NumbersAnswer, NamesSet}
 use Rattle.layers.specs.Numbers.{in_order}
 use Rattle.readers.specs.declared.listing.command.Command as listed
 use Rattle.readers.specs.declared.listing.fault.ListingFault.{ListingFault}
@@ -106,7 +106,7 @@ with_pair cs m renamings q b =
       numbers = b.numbers;
     }
 
-with_names : (cs : List Command) (m : Meaning) (ns numbers : List ℕ) → Body cs m [] [] → m.pairs ≡ [] → numbers ≡ ns → NumbersSay ns (Ok tt) → Body (cs ++ rename ns ∷ []) (record m { numbers = numbers }) (ns ∷ []) []
+with_names : (cs : List Command) (m : Meaning) (ns numbers : List ℕ) → Body cs m [] [] → m.pairs ≡ [] → numbers ≡ ns → NumbersAnswer ns (Ok tt) → Body (cs ++ rename ns ∷ []) (record m { numbers = numbers }) (ns ∷ []) []
 with_names cs m ns numbers b none is say =
     record {
       left_bytes = b.left_bytes;
@@ -130,7 +130,7 @@ names_ok (Ok u) as_file e = refl
 names_ok (Err f) as_file e = cc
 
 -- names that were accepted are those that were given
-named : (ns before after : List ℕ) (s : Result (Unit {0}) NamesFault) → NamesSet ns before s after → s ≡ Ok tt → (after ≡ ns) × NumbersSay ns (Ok tt)
+named : (ns before after : List ℕ) (s : Result (Unit {0}) NamesFault) → NamesSet ns before s after → s ≡ Ok tt → (after ≡ ns) × NumbersAnswer ns (Ok tt)
 named ns before after (Ok u) set e = (set.holds, set.says)
 named ns before after (Err f) set e = cc
 
@@ -171,7 +171,7 @@ with_right AmongPairs cs m r rights (inl a) read s = cc
 with_right AmongPairs cs m r rights (inr a) read s = cc
 with_right AfterEnd cs m r rights a read s = absurd a
 
-renamed : (p : Phase) (cs : List Command) (m : Meaning) (ns numbers : List ℕ) → Allowed p (kind_of (rename ns)) → numbers ≡ ns → NumbersSay ns (Ok tt) → Shape p cs m → Shape AmongPairs (cs ++ rename ns ∷ []) (record m { numbers = numbers })
+renamed : (p : Phase) (cs : List Command) (m : Meaning) (ns numbers : List ℕ) → Allowed p (kind_of (rename ns)) → numbers ≡ ns → NumbersAnswer ns (Ok tt) → Shape p cs m → Shape AmongPairs (cs ++ rename ns ∷ []) (record m { numbers = numbers })
 renamed BeforeLeft cs m ns numbers a is say s = cc
 renamed BeforeRight cs m ns numbers a is say s = cc
 renamed AfterRight cs m ns numbers a is say s = (ns ∷ [], with_names cs m ns numbers s.0 s.1 is say)

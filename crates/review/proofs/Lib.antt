@@ -2,5 +2,8 @@ pub mod Commands
 pub mod Digits
 pub mod Filling
 pub mod Fronts
+pub mod Judging
 pub mod OneAnswer
 pub mod Reading
+pub mod Scripts
+pub mod Telling

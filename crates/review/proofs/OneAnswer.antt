@@ -3,7 +3,7 @@ use Rattle.std.proofs.Common.{◌≡◌, ℕ, ◌+◌, ◌<◌, ◌≤◌, List,
 use Rattle.std.proofs.lemmas.Bool.{cases_lt}
 use Rattle.std.specs.List.{AllByRecursion}
 use Rattle.layers.specs.declared.names.fault.NamesFault.{NamesFault}
-use Rattle.layers.specs.Naming.{NumbersSay}
+use Rattle.layers.specs.Naming.{NumbersAnswer}
 use Rattle.layers.proofs.Setting as setting
 use Rattle.readers.specs.declared.listing.command.Command as listed
 use Rattle.readers.specs.declared.listing.fault.ListingFault.{ListingFault}
@@ -26,7 +26,7 @@ use Rattle.review.proofs.Fronts.{Body, pair_of}
 abbrev FaultOf : Command → ℕ → Result Meaning FileFault → Type 0
 FaultOf (left l) place q = (f : ListingFault) × (listing l ≡ Err f) × (q ≡ Err (InLeft f place))
 FaultOf (right l) place q = (f : ListingFault) × (listing l ≡ Err f) × (q ≡ Err (InRight f place))
-FaultOf (rename ns) place q = (f : NamesFault) × NumbersSay ns (Err f) × (q ≡ Err (InNames f place))
+FaultOf (rename ns) place q = (f : NamesFault) × NumbersAnswer ns (Err f) × (q ≡ Err (InNames f place))
 FaultOf (pair a b) place q = ⊥
 FaultOf end place q = ⊥
 

@@ -3,7 +3,7 @@ use Rattle.std.proofs.Common.{◌≡◌, ℕ, ◌+◌, ◌*◌, ◌<◌, ◌≤�
 use Rattle.std.specs.List.{AllByRecursion}
 use Rattle.std.proofs.lemmas.List.{nil_from_length}
 use Rattle.layers.specs.declared.names.fault.NamesFault.{NamesFault}
-use Rattle.layers.specs.Naming.{NumbersSay, NamesSet}
+use Rattle.layers.specs.Naming.{NumbersAnswer, NamesSet}
 use Rattle.layers.specs.Numbers.{in_order}
 use Rattle.readers.specs.declared.listing.command.Command as listed
 use Rattle.readers.specs.declared.listing.fault.ListingFault.{ListingFault}
@@ -163,6 +163,6 @@ faulty bs s t m n (code.Right bytes place) f i took e =
     rw g.2 (i.short, (bytes.now, fault_in bs s t m (code.Right bytes place) place i took (took.place (length (encode i.commands)) (offset bs s m i)), g.1))
 faulty bs s t m n (code.Rename numbers place) f i took e =
     let g = names_fault e.0 (λ g. InNames g place) f e.1 in
-    rw g.2 (i.short, (numbers.now, fault_in bs s t m (code.Rename numbers place) place i took (took.place (length (encode i.commands)) (offset bs s m i)), subst (NumbersSay numbers.now) g.1 e.2.says))
+    rw g.2 (i.short, (numbers.now, fault_in bs s t m (code.Rename numbers place) place i took (took.place (length (encode i.commands)) (offset bs s m i)), subst (NumbersAnswer numbers.now) g.1 e.2.says))
 faulty bs s t m n (code.Pair a b) f i took e = let no = e.0 in cc
 faulty bs s t m n code.End f i took e = let no = e.0 in cc

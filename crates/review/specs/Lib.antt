@@ -2,11 +2,13 @@ pub mod Commands
 pub mod Digits
 pub mod Entering
 pub mod FileFaults
+pub mod Judging
 pub mod Limits
 pub mod LineFaults
 pub mod Lines
 pub mod Order
 pub mod Readers
+pub mod Reports
 pub mod Reviews
 pub mod Sections
 pub mod Taking

@@ -37,11 +37,17 @@ abbrev pub refused_text : ℕ → ℕ → Within → List ℕ
 refused_text number place within =
     ((((codes "refused " ++ decimal number) ++ codes " at ") ++ decimal place) ++ codes " in ") ++ within_name within
 
+abbrev pub never_text : Pair → List ℕ
+never_text p = pair_text p ++ codes "never"
+
+abbrev pub missing_text : Pair → List ℕ
+missing_text p = pair_text p ++ codes "refused 17"
+
 -- what a line says, without its newline
 abbrev pub said : Line → List ℕ
 said (Reached p ms) = reached_text p ms.now
-said (Never p) = pair_text p ++ codes "never"
-said (Missing p) = pair_text p ++ codes "refused 17"
+said (Never p) = never_text p
+said (Missing p) = missing_text p
 said (Refused number place within) = refused_text number place within
 
 abbrev pub line_text : Line → List ℕ

@@ -2,7 +2,7 @@
 use Rattle.std.specs.Prelude.{◌≡◌, ℕ, ◌+◌, ◌<◌, ◌≤◌, List, [], ◌∷◌, ◌++◌, map, length, vec_items, Ok, Err, Result}
 use Rattle.std.specs.List.{AllByRecursion}
 use Rattle.layers.specs.declared.names.fault.NamesFault.{NamesFault}
-use Rattle.layers.specs.Naming.{numbers_in, NumbersSay}
+use Rattle.layers.specs.Naming.{numbers_in, NumbersAnswer}
 use Rattle.layers.specs.Numbers.{in_order}
 use Rattle.readers.specs.declared.listing.command.Command as listed
 use Rattle.readers.specs.declared.listing.command.Command.TheVariants.{Stop}
@@ -10,6 +10,8 @@ use Rattle.readers.specs.declared.listing.fault.ListingFault.{ListingFault}
 use Rattle.readers.specs.Place.{commands_in}
 use Rattle.readers.specs.Reading.{listing}
 use Rattle.search.specs.declared.threads.Pair.{Pair}
+use Rattle.layers.specs.declared.renamed.Renamed.{Renamed}
+use Rattle.readers.specs.declared.listing.place.Listing.{Listing}
 use Rattle.review.specs.declared.file.fault.FileFault.{FileFault}
 use Rattle.review.specs.declared.file.fault.FileFault.TheVariants.{TooLong, EndsEarly, NotAllowed, InLeft, InRight, InNames}
 use Rattle.review.specs.declared.file.phase.Phase.TheVariants.{BeforeLeft}
@@ -26,8 +28,12 @@ pub record Meaning : Type 0 where
   pub numbers : List ℕ
   pub pairs : List Pair
 
+-- what a left thread, a right thread and pairs mean together
+abbrev pub meaning_of : Listing → Renamed Listing → List Pair → Meaning
+meaning_of l r pairs = record { lefts = commands_in l; rights = commands_in r.graph; numbers = numbers_in r.names; pairs = pairs }
+
 abbrev pub review_of : Review → Meaning
-review_of r = record { lefts = commands_in r.left; rights = commands_in r.right.graph; numbers = numbers_in r.right.names; pairs = vec_items r.pairs }
+review_of r = meaning_of r.left r.right (vec_items r.pairs)
 
 -- both threads are one location without steps
 abbrev pub blank : Meaning
@@ -41,7 +47,7 @@ file_commands l r renamings pairs =
 -- there is no renaming and the numbers are in order, or there is one and it has them
 abbrev pub NumbersFrom : List (List ℕ) → List ℕ → Type 0
 NumbersFrom [] ns = ns ≡ in_order
-NumbersFrom (given ∷ []) ns = (ns ≡ given) × NumbersSay given (Ok tt)
+NumbersFrom (given ∷ []) ns = (ns ≡ given) × NumbersAnswer given (Ok tt)
 NumbersFrom (given ∷ others ∷ more) ns = ⊥
 
 -- the bytes are these commands, one after another, and what they say is m
@@ -59,7 +65,7 @@ pub record Written (bs : List ℕ) (m : Meaning) : Type 0 where
 abbrev pub Sound : Command → Type 0
 Sound (left bs) = (cs : List listed.Command) × (listing bs ≡ Ok cs)
 Sound (right bs) = (cs : List listed.Command) × (listing bs ≡ Ok cs)
-Sound (rename ns) = NumbersSay ns (Ok tt)
+Sound (rename ns) = NumbersAnswer ns (Ok tt)
 Sound (pair a b) = Unit {0}
 Sound end = Unit {0}
 
@@ -91,7 +97,7 @@ FileSays bs (Err (NotAllowed at)) =
     × ((cs : List Command) × (rest : List ℕ) × Front bs cs rest × Forbidden (phase_behind BeforeLeft cs) rest × (at ≡ length (encode cs)))
 FileSays bs (Err (InLeft f place)) = (length bs ≤ most_bytes) × ((l : List ℕ) × FaultIn bs (left l) place × (listing l ≡ Err f))
 FileSays bs (Err (InRight f place)) = (length bs ≤ most_bytes) × ((l : List ℕ) × FaultIn bs (right l) place × (listing l ≡ Err f))
-FileSays bs (Err (InNames f place)) = (length bs ≤ most_bytes) × ((ns : List ℕ) × FaultIn bs (rename ns) place × NumbersSay ns (Err f))
+FileSays bs (Err (InNames f place)) = (length bs ≤ most_bytes) × ((ns : List ℕ) × FaultIn bs (rename ns) place × NumbersAnswer ns (Err f))
 
 abbrev pub meaning_in : Result Review FileFault → Result Meaning FileFault
 meaning_in (Ok r) = Ok (review_of r)

@@ -93,7 +93,14 @@ fn renamed(rt: &HostRuntime) -> anyhow::Result<()> {
         [4, 6, 0, 1, 2, 3, 5, 7],
     )?;
     let zero = threads::table(heap, &threads::INNER_ZERO, &[], 0)?;
-    judge(rt, "renamed apart", one, zero, pair(3, 3))
+    judge(rt, "renamed apart", one, zero, pair(3, 3))?;
+    // Lock 0 has the number 1; by the inverse it would have 2.
+    let one = under(
+        threads::listing(heap, &threads::INNER_ONE)?,
+        [1, 2, 0, 3, 4, 5, 6, 7],
+    )?;
+    let zero = threads::table(heap, &threads::INNER_ZERO, &[], 0)?;
+    judge(rt, "renamed in a ring", one, zero, pair(1, 1))
 }
 
 fn pair(left: u32, right: u32) -> Pair {

@@ -1,3 +1,4 @@
+// The fault of names.
 ghost use Rattle.std.specs.Prelude.{◌≡◌};
 ghost use Rattle.layers.specs.NamesFaults.{names_refusal};
 

@@ -1,6 +1,7 @@
+// Making names, setting them, and looking them up.
 ghost use Rattle.std.specs.Prelude.{◌≡◌};
 ghost use Rattle.layers.specs.Numbers.{in_order, number_of};
-ghost use Rattle.layers.specs.Naming.{numbers_in, NumbersSay, NamesSet};
+ghost use Rattle.layers.specs.Naming.{numbers_in, NumbersAnswer, NamesSet};
 
 use crate::names::{NAMES, Names, NamesFault};
 use locks::sets::{LOCKS, LockSet};
@@ -40,7 +41,7 @@ impl Names {
 
 // The first number that is no lock, or that stood before, is the fault.
 fn check(numbers: &[u8]) -> Result<(), NamesFault>
-    ensures { NumbersSay numbers.now result }
+    ensures { NumbersAnswer numbers.now result }
 {
     let mut seen = LockSet::none();
     for (at, number) in numbers.iter().enumerate() {

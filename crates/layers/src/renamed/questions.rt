@@ -1,5 +1,5 @@
+// A renamed graph as a thread graph: the graph beneath is asked, and the lock of a step is renamed.
 ghost use Rattle.std.specs.Prelude.{◌≡◌};
-ghost use Rattle.layers.specs.Numbers.{in_order};
 ghost use Rattle.layers.specs.Naming.{numbers_in};
 ghost use Rattle.layers.specs.Renaming.{renamed_step, renamed_graph};
 ghost use Rattle.layers.specs.RenamingLaws.{renamed_bounded};
@@ -8,19 +8,6 @@ use crate::names::Names;
 use crate::renamed::Renamed;
 use graph::ThreadGraph;
 use locks::steps::{Kind, Step};
-
-impl<G> Renamed<G> {
-    // Each lock has its own number at first.
-    pub fn new(graph: G) -> Renamed<G>
-        ensures graph { result.graph ≡ graph }
-        ensures names { numbers_in result.names ≡ in_order }
-    {
-        Renamed {
-            graph,
-            names: Names::new(),
-        }
-    }
-}
 
 impl<G: ThreadGraph> ThreadGraph for Renamed<G> {
     ghost meaning = { λ r. renamed_graph (numbers_in r.names) (G.meaning r.graph) };

@@ -1,7 +1,7 @@
 // What is wrong with a table, if anything is.
 ghost use Rattle.std.specs.Prelude.{◌≤◌, MatchOption};
 ghost use Rattle.locks.specs.Limits.{most_locations};
-ghost use Rattle.readers.specs.TableRefusals.{TableSays, AllFit, AllFew, FirstWrong, FirstTooMany};
+ghost use Rattle.readers.specs.TableRefusals.{TableAnswers, AllFit, AllFew, FirstWrong, FirstTooMany};
 
 use crate::table::{Record, TableFault};
 use graph::MOST_LOCATIONS;
@@ -37,7 +37,7 @@ fn first_too_many(locations: u16, records: &[Record]) -> Option<usize>
 }
 
 pub(crate) fn check(locations: u16, start: u16, records: &[Record]) -> Result<(), TableFault>
-    ensures { TableSays locations start records.now result }
+    ensures { TableAnswers locations start records.now result }
 {
     if locations == 0 || usize::from(locations) > MOST_LOCATIONS {
         return Err(TableFault::LocationCount);

@@ -1,3 +1,4 @@
+// The faults of a table.
 ghost use Rattle.std.specs.Prelude.{◌≡◌};
 ghost use Rattle.readers.specs.TableFaults.{number, place, table_refusal};
 
@@ -9,7 +10,7 @@ use locks::refusals::{Part, Refusal};
 pub enum TableFault {
     LocationCount,
     StartMissing,
-    // A target or a location that is none, a kind or a lock that is none, or a plain step with a lock.
+    // A location or a target outside the graph, an unknown kind or lock, or a plain step whose lock is not 0.
     WrongRecord { at: usize },
     // One step more than a location may have. It is looked for once no record is wrong by itself.
     TooManySteps { at: usize },

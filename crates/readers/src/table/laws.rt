@@ -1,7 +1,7 @@
 // What the records of a table say, apart from how they are read.
 ghost use Rattle.readers.specs.Tables.{TablesSayOneGraph};
 
-// One graph, and where the table is well formed one within the bounds.
+// At most one graph; and the table is accepted where that one is within the bounds, and nowhere else.
 pub fn tables_say_one_graph()
     ensures { TablesSayOneGraph }
 {}

@@ -1,5 +1,6 @@
 // The steps of one location.
 ghost use Rattle.std.specs.Prelude.{◌≡◌, ◌≤◌, length};
+ghost use Rattle.locks.specs.Limits.{most_steps};
 
 use locks::steps::{Kind, MOST_STEPS, Step};
 
@@ -10,13 +11,12 @@ const ROW: usize = MOST_STEPS as usize;
 pub(crate) struct Row {
     steps: [Step; ROW],
     count: u8,
-    ghost whole: { length steps ≡ 16 },
-    ghost few: { count ≤ 16 },
+    ghost whole: { length steps ≡ most_steps },
+    ghost few: { count ≤ most_steps },
 }
 
 impl Row {
     ghost use Rattle.std.specs.Prelude.{◌<◌, [], ◌∷◌, ◌++◌};
-    ghost use Rattle.locks.specs.Limits.{most_steps};
     ghost use Rattle.readers.specs.Rows.{row_steps};
 
     pub(crate) fn empty() -> Row

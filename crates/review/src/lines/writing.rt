@@ -1,5 +1,5 @@
-ghost use Rattle.std.specs.Prelude.{◌≡◌};
-ghost use Rattle.review.specs.Lines.{pair_text, reached_text, refused_text, line_text, within_name, Filled, LineWritten};
+ghost use Rattle.std.specs.Prelude.{◌≡◌, length};
+ghost use Rattle.review.specs.Lines.{pair_text, reached_text, refused_text, line_text, within_name, counted, Filled, LineWritten};
 
 use crate::file::Within;
 use crate::lines::putting::{put, put_moves, put_number};
@@ -25,11 +25,18 @@ impl Line<'_> {
     pub fn write(&self, space: &mut [u8]) -> Result<usize, LineFault>
         ensures { LineWritten (line_text self.now) space.old result space.new }
     {
-        let needed = self.put_in(&mut []);
+        let needed = self.len();
         if needed > space.len() {
             return Err(LineFault { needed });
         }
         Ok(self.put_in(space))
+    }
+
+    // How many bytes it takes, or the largest number where they are more than can be counted.
+    pub(crate) fn len(&self) -> usize
+        ensures { result ≡ counted (length (line_text self.now)) }
+    {
+        self.put_in(&mut [])
     }
 
     fn put_in(&self, space: &mut [u8]) -> usize

@@ -1,3 +1,4 @@
+// Making the place, and reading a table into it.
 ghost use Rattle.std.specs.Prelude.{◌≡◌, ◌≤◌, vec_capacity, IfOk};
 ghost use Rattle.locks.specs.Limits.{most_locations};
 ghost use Rattle.readers.specs.contracts.table.place.questions.EdgeTableThreadGraph.TheImpl.{ghosts as table_ghosts};

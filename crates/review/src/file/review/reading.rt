@@ -1,9 +1,9 @@
-ghost use Rattle.std.specs.Prelude.{◌≡◌, ◌<◌, length, IfOk};
+ghost use Rattle.std.specs.Prelude.{◌≡◌, ◌<◌, length, IfOk, vec_items};
 ghost use Rattle.layers.specs.Naming.{numbers_in, NamesSet};
 ghost use Rattle.review.specs.Commands.{Sized};
 ghost use Rattle.review.specs.Entering.{Emptied, Entered, filled};
 ghost use Rattle.review.specs.Limits.{most_pairs};
-ghost use Rattle.review.specs.Reviews.{review_of, blank, FileSays, FileRead};
+ghost use Rattle.review.specs.Reviews.{review_of, meaning_of, blank, FileSays, FileRead};
 ghost use Rattle.review.specs.Sections.{command_of};
 
 use crate::file::review::Review;
@@ -89,9 +89,7 @@ impl Review {
 
     // The left thread, the right thread, and the pairs.
     pub fn into_parts(self) -> (Listing, Renamed<Listing>, Vec<Pair>)
-        ensures left { result.0 ≡ self.left }
-        ensures right { result.1 ≡ self.right }
-        ensures pairs { result.2 ≡ self.pairs }
+        ensures { meaning_of result.0 result.1 (vec_items result.2) ≡ review_of self }
     {
         (self.left, self.right, self.pairs)
     }

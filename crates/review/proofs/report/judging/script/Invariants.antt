@@ -1,0 +1,11 @@
+use Rattle.std.proofs.Common.{◌≡◌, ◌+◌, length, take}
+use Rattle.runs.specs.Scripts.{written}
+use Rattle.review.specs.Judging.{ScriptSays}
+use Rattle.review.proofs.report.judging.script.Given as goal
+
+abbrev pub invariant-loop-pair : goal.invariant-loop-pair
+invariant-loop-pair l = record {
+  says : ScriptSays l.script (take l.pair-index l.pairs);
+  many : length (written l.script).calls ≡ l.pair-index + 2;
+  most : (written l.script).most ≡ length l.pairs + 2;
+}

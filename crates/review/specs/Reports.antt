@@ -1,0 +1,61 @@
+-- What is printed of a review file.
+use Rattle.std.specs.Prelude.{◌≡◌, ℕ, ◌⊎◌, List, [], length, ◌++◌, Some, Ok, Err, Result}
+use Rattle.std.specs.List.{slice_get, flat_map}
+use Rattle.layers.specs.Renaming.{renamed_graph}
+use Rattle.locks.specs.declared.refusals.Refusal.{Refusal}
+use Rattle.locks.specs.declared.together.Side.{Side}
+use Rattle.locks.specs.Graphs.{Graph}
+use Rattle.locks.specs.Schedules.{Replays}
+use Rattle.locks.specs.Shortest.{LeastLength, NoSchedule}
+use Rattle.readers.specs.Graph.{listing_graph}
+use Rattle.search.specs.declared.faults.SummariseFault.{SummariseFault}
+use Rattle.search.specs.declared.threads.Pair.{Pair}
+use Rattle.search.specs.Faults.{summarise_refusal}
+use Rattle.search.specs.Sides.{BothThere, Missing}
+use Rattle.search.specs.Summarising.{Accepted, Refused}
+use Rattle.review.specs.declared.file.fault.FileFault.{FileFault}
+use Rattle.review.specs.declared.file.fault.Within.{Within}
+use Rattle.review.specs.declared.file.fault.Within.TheVariants as where_
+use Rattle.review.specs.FileFaults.{file_refusal, within}
+use Rattle.review.specs.Lines.{newline, pair_text, reached_text, never_text, missing_text, refused_text}
+use Rattle.review.specs.Reviews.{Meaning, FileSays}
+
+-- the graphs of the two threads; the right one's locks are renamed
+abbrev pub left_graph : Meaning → Graph
+left_graph m = listing_graph m.lefts
+
+abbrev pub right_graph : Meaning → Graph
+right_graph m = renamed_graph m.numbers (listing_graph m.rights)
+
+-- a refusal by its number and place, and where it arose
+abbrev pub refusal_line : Refusal → Within → List ℕ
+refusal_line r w = refused_text r.number r.place w ++ newline
+
+-- the line of a pair: a location is none, or no schedule leads to it, or it is reached, with a shortest one
+abbrev pub PairLine : Graph → Graph → Pair → List ℕ → Type 0
+PairLine G H p line =
+    ((s : Side) × Missing G H p.left p.right s × (line ≡ missing_text p ++ newline))
+    ⊎ ((BothThere G H p.left p.right × NoSchedule G H p.left p.right × (line ≡ never_text p ++ newline))
+    ⊎ ((moves : List ℕ) × BothThere G H p.left p.right × Replays G H p.left p.right moves × LeastLength G H p.left p.right (length moves) × (line ≡ reached_text p moves ++ newline)))
+
+-- a line for each pair, in order
+pub record PairLines (G H : Graph) (pairs : List Pair) (text : List ℕ) : Type 0 where
+  pub lines : List (List ℕ)
+  pub whole : text ≡ flat_map (λ line. line) lines
+  pub as_many : length lines ≡ length pairs
+  pub each : (i : ℕ) (p : Pair) (line : List ℕ) → slice_get pairs i ≡ Some p → slice_get lines i ≡ Some line → PairLine G H p line
+
+-- the refusal of a summary, the left first, or the lines of the pairs
+abbrev pub Judged : Graph → Graph → List Pair → List ℕ → Type 0
+Judged G H pairs text =
+    ((f : SummariseFault) × Refused G f × (text ≡ refusal_line (summarise_refusal f) where_.Left))
+    ⊎ (((f : SummariseFault) × Accepted G × Refused H f × (text ≡ refusal_line (summarise_refusal f) where_.Right))
+    ⊎ (Accepted G × Accepted H × PairLines G H pairs text))
+
+-- the report of a file by what it says
+abbrev pub ReportOf : Result Meaning FileFault → List ℕ → Type 0
+ReportOf (Ok m) text = Judged (left_graph m) (right_graph m) m.pairs text
+ReportOf (Err f) text = text ≡ refusal_line (file_refusal f) (within f)
+
+abbrev pub Reports : List ℕ → List ℕ → Type 0
+Reports file text = (q : Result Meaning FileFault) × FileSays file q × ReportOf q text

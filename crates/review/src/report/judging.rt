@@ -1,0 +1,74 @@
+// Which calls a review makes, and what their answers say of its pairs.
+ghost use Rattle.std.specs.Prelude.{◌≡◌, IfOk, length, vec_items};
+ghost use Rattle.review.specs.Judging.{question_of, ScriptSays, Tells, AllTell};
+
+use crate::lines::Line;
+use layers::renamed::Renamed;
+use pairs::answers::Verdict;
+use pairs::asking::most_moves;
+use readers::listing::Listing;
+use runs::calls::{Answer, Call, Question, Site, WhichFolder};
+use runs::scripts::Script;
+use search::threads::Pair;
+use std::alloc::{AllocError, Global};
+
+pub(crate) type Right = Renamed<Listing>;
+
+// Both summaries, and then each pair.
+pub(crate) fn script(heap: Global, pairs: &[Pair]) -> Result<Script<Listing, Right>, AllocError>
+    ensures { IfOk result (λ s. ScriptSays s pairs.now) }
+{
+    let mut script = Script::new(heap, pairs.len() + 2)?;
+    let _ = script.add(Call::Summarise(WhichFolder::First));
+    let _ = script.add(Call::Summarise(WhichFolder::Second));
+    for pair in pairs {
+        let list = vec![in heap; 0; most_moves()]?;
+        let _ = script.add(Call::Ask(question(*pair), list));
+    }
+    Ok(script)
+}
+
+// The left location is of the first folder, the right one of the second.
+fn question(pair: Pair) -> Question
+    ensures { result ≡ question_of pair }
+{
+    Question {
+        left: Site {
+            folder: WhichFolder::First,
+            location: pair.left,
+        },
+        right: Site {
+            folder: WhichFolder::Second,
+            location: pair.right,
+        },
+    }
+}
+
+// What became of each pair, from the answers to its asks.
+pub(crate) fn lines<'a>(
+    heap: Global,
+    pairs: &[Pair],
+    answers: &'a [Answer<Listing, Right>],
+) -> Result<Vec<Line<'a>>, AllocError>
+    requires { length pairs.now ≡ length answers.now }
+    ensures { IfOk result (λ lines. AllTell pairs.now answers.now (vec_items lines)) }
+{
+    let mut lines = Vec::with_capacity(heap, pairs.len())?;
+    for (place, pair) in pairs.iter().enumerate() {
+        lines.push_reserved(line_of(*pair, &answers[place]));
+    }
+    Ok(lines)
+}
+
+fn line_of<'a>(pair: Pair, answer: &'a Answer<Listing, Right>) -> Line<'a>
+    ensures { Tells pair answer.now result }
+{
+    match answer {
+        Answer::Asked(Ok(Verdict::Reached(count)), list) => Line::Reached {
+            pair,
+            moves: &list[..list.len().min(*count)],
+        },
+        Answer::Asked(Ok(Verdict::Never), _) => Line::Never { pair },
+        _ => Line::Missing { pair },
+    }
+}
