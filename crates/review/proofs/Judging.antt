@@ -1,7 +1,9 @@
 -- What the answers to the calls of a review say of its threads and its pairs.
-use Rattle.std.proofs.Common.{◌≡◌, ℕ, zero, suc, ◌+◌, ◌<◌, ◌≤◌, ◌⊎◌, false, List, [], ◌∷◌, ◌++◌, map, length, take, drop, replicate, Some, None, Option, Ok, Err, Result, vec_items, sym, refl, ap, subst, ◌∙◌, inl, inr, ⊎_elim, arith}
+use Rattle.std.proofs.Common.{◌≡◌, ℕ, zero, suc, ◌+◌, ◌-◌, ◌<◌, ◌≤◌, ◌⊎◌, false, List, [], ◌∷◌, ◌++◌, map, length, take, drop, replicate, Some, None, Option, Ok, Err, Result, vec_items, sym, refl, ap, subst, ◌∙◌, inl, inr, ⊎_elim, append-nil, arith}
+use Rattle.std.specs.Prelude.{IfOk}
 use Rattle.std.specs.List.{slice_get, flat_map}
-use Rattle.std.proofs.lemmas.List.{length-map, length-take-le, length-replicate}
+use Rattle.std.specs.Option.{option_map}
+use Rattle.std.proofs.lemmas.List.{length-map, length-take-le, length-replicate, length-drop, take_all}
 use Rattle.std.proofs.lemmas.Option.{slice_get-map}
 use Rattle.locks.specs.declared.refusals.Refusal.{Refusal}
 use Rattle.locks.specs.declared.together.Side.{Side}
@@ -28,9 +30,10 @@ use Rattle.search.specs.declared.threads.Pair.{Pair}
 use Rattle.search.specs.Faults.{summarise_refusal}
 use Rattle.search.specs.Summarising.{Accepted, Refused, Summarised}
 use Rattle.search.proofs.SummaryLaws.{accepted_not_refused}
+use Rattle.review.specs.declared.file.fault.Within.{Within}
 use Rattle.review.specs.declared.file.fault.Within.TheVariants as where_
 use Rattle.review.specs.declared.lines.line.Line.{Line}
-use Rattle.review.specs.Judging.{question_of, asks_of, review_calls, told, LinesTell, Refuses, lines_text}
+use Rattle.review.specs.Judging.{Told, question_of, asks_of, review_calls, told, LinesTell, Refuses, lines_text}
 use Rattle.review.specs.Lines.{line_text}
 use Rattle.review.specs.Reports.{refusal_line, PairLine, PairLines, Judged}
 
@@ -97,3 +100,166 @@ module _ (G H : Graph) (ps : List Pair) where
       let many : length (replicate {A = ℕ} longest 0) ≡ longest = length-replicate {A = ℕ} longest 0 in
       let past = s.4 in
       absurd (omega arith)
+
+-- a run of these calls
+
+first_of_two : {X : Type 0} (xs : List X) → 2 ≤ length xs → (x : X) × (slice_get xs 0 ≡ Some x)
+first_of_two [] h = absurd (omega arith)
+first_of_two (x ∷ xs) h = (x, refl)
+
+second_of_two : {X : Type 0} (xs : List X) → 2 ≤ length xs → (x : X) × (slice_get xs 1 ≡ Some x)
+second_of_two [] h = absurd (omega arith)
+second_of_two (x ∷ []) h = absurd (omega arith)
+second_of_two (x ∷ y ∷ xs) h = (y, refl)
+
+behind_two : {X : Type 0} (xs : List X) (i : ℕ) → slice_get (drop 2 xs) i ≡ slice_get xs (suc (suc i))
+behind_two [] i = refl
+behind_two (x ∷ []) i = refl
+behind_two (x ∷ y ∷ xs) i = refl
+
+module _ {A B : Type 0} (f : A → Graph) (g : B → Graph) where
+  abbrev means : Answer A B → AnswerMeaning
+  means = answer_meaning f g
+
+  -- what a summarise says by its answer: the refusal that applies, or that the graph is accepted
+  abbrev Summed : Graph → Answer A B → Type 0
+  Summed K x =
+      ((e : SummariseFault) × (x ≡ back.Summarised (Err e)) × ((d : SummariseFault) × Refused K d × (summarise_refusal e ≡ summarise_refusal d)))
+      ⊎ (((e : SummariseFault) → x ≡ back.Summarised (Err e) → ⊥) × Accepted K)
+
+  by_answer : (K : Graph) (x : Answer A B) (q : Result ℕ SummariseFault) (table : List Entry) → means x ≡ summarised (numbered summarise_refusal q) → Summarised K q table → Summed K x
+  by_answer K (back.Summarised (Ok n)) (Ok m) table e s = inr ((λ d no. cc), s.says.0)
+  by_answer K (back.Summarised (Ok n)) (Err d) table e s = cc
+  by_answer K (back.Summarised (Err x)) (Ok m) table e s = cc
+  by_answer K (back.Summarised (Err x)) (Err d) table e s = inl (x, refl, (d, s.says.0, (let same : summarise_refusal x ≡ summarise_refusal d = cc in same)))
+  by_answer K (back.ExchangedFirst k) q table e s = cc
+  by_answer K (back.ExchangedSecond k) q table e s = cc
+  by_answer K (back.Entry k) q table e s = cc
+  by_answer K (back.Asked k list) q table e s = cc
+  by_answer K (back.Replayed k list) q table e s = cc
+
+-- lines and the answers that they tell
+
+told_at : (ps : List Pair) (zs : List AnswerMeaning) (ls : List Line) (i : ℕ) (p : Pair) (line : List ℕ) → LinesTell ps zs ls → slice_get ps i ≡ Some p → slice_get (map line_text ls) i ≡ Some line → (z : AnswerMeaning) × (slice_get zs i ≡ Some z) × (line ≡ told p z)
+told_at [] zs ls i p line t e k = cc
+told_at (q ∷ ps) [] ls i p line t e k = absurd t
+told_at (q ∷ ps) (z ∷ zs) [] i p line t e k = absurd t
+told_at (q ∷ ps) (z ∷ zs) (l ∷ ls) zero p line t e k =
+    let pair : q ≡ p = cc in
+    let text : line_text l ≡ line = cc in
+    (z, refl, sym text ∙ t.0 ∙ ap (λ x. told x z) pair)
+told_at (q ∷ ps) (z ∷ zs) (l ∷ ls) (suc i) p line t e k = told_at ps zs ls i p line t.1 e k
+
+as_many_lines : (ps : List Pair) (zs : List AnswerMeaning) (ls : List Line) → LinesTell ps zs ls → length ls ≡ length ps
+as_many_lines [] zs [] t = refl
+as_many_lines [] zs (l ∷ ls) t = absurd t
+as_many_lines (p ∷ ps) [] ls t = absurd t
+as_many_lines (p ∷ ps) (z ∷ zs) [] t = absurd t
+as_many_lines (p ∷ ps) (z ∷ zs) (l ∷ ls) t = ap suc (as_many_lines ps zs ls t.1)
+
+in_lines : (ls : List Line) → lines_text ls ≡ flat_map (λ line. line) (map line_text ls)
+in_lines [] = refl
+in_lines (l ∷ ls) = ap (λ xs. line_text l ++ xs) (in_lines ls)
+
+module _ {A B : Type 0} (f : A → Graph) (g : B → Graph) (a : A) (b : B) (cs : List (Call A B)) (ran : Outcome A B) (right : RunRight f g a b cs ran) (ps : List Pair) (script : map (call_meaning f g) cs ≡ review_calls ps) where
+  abbrev answers : List (Answer A B)
+  answers = vec_items ran.answers
+
+  rules : KeepsTheRules (f a) (g b) (review_calls ps) (map (means f g) answers) right.tables
+  rules = subst (λ c. KeepsTheRules (f a) (g b) c (map (means f g) answers) right.tables) script right.rules
+
+  pub as_many : length answers ≡ length ps + 2
+  as_many =
+      let all = rules.as_many in
+      let long = length-map answers (means f g) in
+      let asks = length-map ps (λ p. ask (question_of p) (replicate longest 0)) in
+      omega arith
+
+  answer_is : (n : ℕ) (x : Answer A B) → slice_get answers n ≡ Some x → slice_get (map (means f g) answers) n ≡ Some (means f g x)
+  answer_is n x e = slice_get-map (means f g) answers n ∙ ap (option_map (means f g)) e
+
+  left_summary : (x : Answer A B) → slice_get answers 0 ≡ Some x → Summed f g (f a) x
+  left_summary x e = let rule = rules.each 0 (summarise First) (means f g x) refl (answer_is 0 x e) in by_answer f g (f a) x rule.0 _ rule.1 rule.2
+
+  right_summary : (x : Answer A B) → slice_get answers 1 ≡ Some x → Summed f g (g b) x
+  right_summary x e = let rule = rules.each 1 (summarise Second) (means f g x) refl (answer_is 1 x e) in by_answer f g (g b) x rule.0 _ rule.1 rule.2
+
+  ask_line : (i : ℕ) (p : Pair) (x : Answer A B) → slice_get ps i ≡ Some p → slice_get answers (suc (suc i)) ≡ Some x → Accepted (f a) → Accepted (g b) → PairLine (f a) (g b) p (told p (means f g x))
+  ask_line i p x e h one two =
+      let q = question_of p in
+      let call = slice_get-map (λ r. ask (question_of r) (replicate longest 0)) ps i ∙ ap (option_map (λ r. ask (question_of r) (replicate longest 0))) e in
+      let rule = rules.each (suc (suc i)) (ask q (replicate longest 0)) (means f g x) call (answer_is (suc (suc i)) x h) in
+      let has = λ (s : Side). IsSummarised (folder_at q s) (f a) (g b) (before (f a) (g b) ps i) in
+      let lacks = λ (s : Side). NotSummarised (folder_at q s) (f a) (g b) (before (f a) (g b) ps i) in
+      let answered = subst (λ K. Answered has lacks (f a) K p.left p.right (replicate longest 0) rule.0 rule.1) (stays (f a) (g b) ps Second i)
+      (subst (λ K. Answered has lacks K (in_force Second (f a) (g b) (before (f a) (g b) ps i)) p.left p.right (replicate longest 0) rule.0 rule.1) (stays (f a) (g b) ps First i) rule.3) in
+      subst (λ z. PairLine (f a) (g b) p (told p z)) (sym rule.2) (pair_line (f a) (g b) ps i p rule.0 rule.1 one two answered)
+
+  some_answer : 2 ≤ length answers
+  some_answer = let many = as_many in omega arith
+
+  -- a refused summary, by the answer at its place
+  refused_by : (K : Graph) (n : ℕ) (r : Refusal) → ((x : Answer A B) → slice_get answers n ≡ Some x → Summed f g K x) → Refuses answers n (Some r) → (d : SummariseFault) × Refused K d × (r ≡ summarise_refusal d)
+  refused_by K n r summed h = by (summed (back.Summarised (Err h.0)) h.1)
+    where
+      by : Summed f g K (back.Summarised (Err h.0)) → (d : SummariseFault) × Refused K d × (r ≡ summarise_refusal d)
+      by (inl q) = let same : h.0 ≡ q.0 = (let is = q.1 in cc) in (q.2.0, q.2.1, h.2 ∙ ap summarise_refusal same ∙ q.2.2)
+      by (inr q) = absurd (q.0 h.0 refl)
+
+  accepted_by : (K : Graph) (n : ℕ) (x : Answer A B) → slice_get answers n ≡ Some x → Summed f g K x → Refuses answers n None → Accepted K
+  accepted_by K n x e (inl q) h = absurd (h q.0 (e ∙ ap (λ y. Some y) q.1))
+  accepted_by K n x e (inr q) h = q.1
+
+  pub accepted_left : Refuses answers 0 None → Accepted (f a)
+  accepted_left h = let x = first_of_two answers some_answer in accepted_by (f a) 0 x.0 x.1 (left_summary x.0 x.1) h
+
+  pub accepted_right : Refuses answers 1 None → Accepted (g b)
+  accepted_right h = let x = second_of_two answers some_answer in accepted_by (g b) 1 x.0 x.1 (right_summary x.0 x.1) h
+
+  pub refused_left : (r : Refusal) (text : List ℕ) → Refuses answers 0 (Some r) → text ≡ refusal_line r where_.Left → Judged (f a) (g b) ps text
+  refused_left r text h is = let d = refused_by (f a) 0 r left_summary h in inl (d.0, d.1, is ∙ ap (λ x. refusal_line x where_.Left) d.2)
+
+  pub refused_right : (r : Refusal) (text : List ℕ) → Refuses answers 0 None → Refuses answers 1 (Some r) → text ≡ refusal_line r where_.Right → Judged (f a) (g b) ps text
+  refused_right r text first h is = let d = refused_by (g b) 1 r right_summary h in inr (inl (d.0, accepted_left first, d.1, is ∙ ap (λ x. refusal_line x where_.Right) d.2))
+
+  pub judged : (ls : List Line) (text : List ℕ) → Refuses answers 0 None → Refuses answers 1 None → LinesTell ps (map (means f g) (drop 2 answers)) ls → text ≡ lines_text ls → Judged (f a) (g b) ps text
+  judged ls text first second tell is = inr (inr (
+    accepted_left first,
+    accepted_right second,
+    record {
+      lines = map line_text ls;
+      whole = is ∙ in_lines ls;
+      as_many = length-map ls line_text ∙ as_many_lines ps (map (means f g) (drop 2 answers)) ls tell;
+      each = each_line;
+    },
+  ))
+    where
+      some_at : (i : ℕ) (o : Option (Answer A B)) (z : AnswerMeaning) → o ≡ slice_get (drop 2 answers) i → option_map (means f g) o ≡ Some z → (x : Answer A B) × (slice_get (drop 2 answers) i ≡ Some x) × (z ≡ means f g x)
+      some_at i (Some x) z e h = (x, sym e, let same : z ≡ means f g x = cc in same)
+      some_at i None z e h = cc
+
+      each_line : (i : ℕ) (p : Pair) (line : List ℕ) → slice_get ps i ≡ Some p → slice_get (map line_text ls) i ≡ Some line → PairLine (f a) (g b) p line
+      each_line i p line e h =
+          let at = told_at ps (map (means f g) (drop 2 answers)) ls i p line tell e h in
+          let x = some_at i (slice_get (drop 2 answers) i) at.0 refl (sym (slice_get-map (means f g) (drop 2 answers) i) ∙ at.1) in
+          let line_is : line ≡ told p (means f g x.0) = at.2 ∙ ap (told p) x.2 in
+          subst (PairLine (f a) (g b) p) (sym line_is) (ask_line i p x.0 e (sym (behind_two answers i) ∙ x.1) (accepted_left first) (accepted_right second))
+
+-- what is told of a run's answers is what is to be judged of its graphs
+pub told_judged : {A B : Type 0} (f : A → Graph) (g : B → Graph) (a : A) (b : B) (cs : List (Call A B)) (ran : Outcome A B) (right : RunRight f g a b cs ran) (ps : List Pair) (script : map (call_meaning f g) cs ≡ review_calls ps) (text : List ℕ) → Told ps (vec_items ran.answers) text → Judged (f a) (g b) ps text
+told_judged f g a b cs ran right ps script text (inl t) = refused_left f g a b cs ran right ps script t.0 text t.1 t.2
+told_judged f g a b cs ran right ps script text (inr (inl t)) = refused_right f g a b cs ran right ps script t.1.0 text t.0 t.1.1 t.1.2
+told_judged f g a b cs ran right ps script text (inr (inr t)) = judged f g a b cs ran right ps script t.2.0 text t.0 t.1 (t.2.1 f g) t.2.2
+
+-- a report of one line, and a report by the meaning of a review
+
+pub one_line : (l : Line) (r : Refusal) (w : Within) (text : List ℕ) → line_text l ≡ refusal_line r w → text ≡ lines_text (l ∷ []) → text ≡ refusal_line r w
+one_line l r w text line is = is ∙ append-nil (line_text l) ∙ line
+
+pub if_ok : {X E : Type 0} {P Q : X → Type 0} (r : Result X E) → IfOk r P → ((x : X) → P x → Q x) → IfOk r Q
+if_ok (Ok x) h k = k x h
+if_ok (Err e) h k = h
+
+-- the answers behind the two summaries, as a part of them all
+pub part_behind : {X : Type 0} (xs : List X) → take (length xs - 2) (drop 2 xs) ≡ drop 2 xs
+part_behind xs = take_all (length xs - 2) (drop 2 xs) (let long = length-drop 2 xs in omega arith)

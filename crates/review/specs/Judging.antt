@@ -1,5 +1,5 @@
 -- The calls that a review makes, and the texts of their answers.
-use Rattle.std.specs.Prelude.{◌≡◌, ℕ, List, [], ◌∷◌, ◌++◌, map, take, length, replicate, Some, None, Ok, Err, Option, Result}
+use Rattle.std.specs.Prelude.{◌≡◌, ℕ, ◌⊎◌, List, [], ◌∷◌, ◌++◌, map, take, drop, length, replicate, Some, None, Ok, Err, Option, Result}
 use Rattle.std.specs.List.{slice_get, flat_map}
 use Rattle.layers.specs.declared.renamed.Renamed.{Renamed}
 use Rattle.locks.specs.Graphs.{Graph}
@@ -18,6 +18,8 @@ use Rattle.runs.specs.Calls.{CallMeaning, AnswerMeaning, summarise, ask, exchang
 use Rattle.runs.specs.Scripts.{written}
 use Rattle.search.specs.declared.threads.Pair.{Pair}
 use Rattle.review.specs.declared.lines.line.Line.{Line}
+use Rattle.review.specs.declared.file.fault.Within.TheVariants as where_
+use Rattle.review.specs.Reports.{refusal_line}
 use Rattle.review.specs.Lines.{newline, reached_text, never_text, missing_text, line_text}
 
 -- the left location is of the first folder, the right one of the second
@@ -67,3 +69,10 @@ AllTell {A} {B} pairs answers lines = (f : A → Graph) (g : B → Graph) → Li
 abbrev pub Refuses : {A B : Type 0} → List (Answer A B) → ℕ → Option Refusal → Type 0
 Refuses answers n (Some r) = (f : SummariseFault) × (slice_get answers n ≡ Some (back.Summarised (Err f))) × (r ≡ summarise_refusal f)
 Refuses answers n None = (f : SummariseFault) → slice_get answers n ≡ Some (back.Summarised (Err f)) → ⊥
+
+-- what is printed of the answers: the refusal of a summary, the left one first, or a line for each pair
+abbrev pub Told : {A B : Type 0} → List Pair → List (Answer A B) → List ℕ → Type 0
+Told {A} {B} pairs answers text =
+    ((r : Refusal) × Refuses answers 0 (Some r) × (text ≡ refusal_line r where_.Left))
+    ⊎ ((Refuses answers 0 None × ((r : Refusal) × Refuses answers 1 (Some r) × (text ≡ refusal_line r where_.Right)))
+    ⊎ (Refuses answers 0 None × Refuses answers 1 None × ((lines : List Line) × AllTell pairs (drop 2 answers) lines × (text ≡ lines_text lines))))

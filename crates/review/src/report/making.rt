@@ -1,5 +1,5 @@
-ghost use Rattle.std.specs.Prelude.{◌≡◌, IfOk};
-ghost use Rattle.review.specs.Judging.{Refuses};
+ghost use Rattle.std.specs.Prelude.{◌≡◌, ◌+◌, length, IfOk};
+ghost use Rattle.review.specs.Judging.{Refuses, Told};
 ghost use Rattle.review.specs.Lines.{line_text};
 ghost use Rattle.review.specs.Reports.{left_graph, right_graph, refusal_line, Judged, Reports};
 ghost use Rattle.review.specs.Reviews.{review_of};
@@ -13,6 +13,7 @@ use readers::listing::Listing;
 use runs::calls::Answer;
 use runs::running::run;
 use search::folders::Room;
+use search::threads::Pair;
 use std::alloc::{AllocError, Global};
 
 // What is printed of a file: a line for each pair, or the one refusal.
@@ -31,14 +32,25 @@ fn judge(heap: Global, review: Review) -> Result<Vec<u8>, AllocError>
     let (left, right, pairs) = review.into_parts();
     let script = script(heap, &pairs)?;
     let ran = run(Room::new(heap)?, Room::new(heap)?, left, right, script);
-    let answers = ran.answers.as_slice();
+    tell(heap, &pairs, &ran.answers)
+}
+
+// The refusal of a summary, the left one first, or what became of each pair.
+fn tell(
+    heap: Global,
+    pairs: &[Pair],
+    answers: &[Answer<Listing, Right>],
+) -> Result<Vec<u8>, AllocError>
+    requires { length answers.now ≡ length pairs.now + 2 }
+    ensures { IfOk result (λ text. Told pairs.now answers.now text.items) }
+{
     if let Some(refusal) = refusal(answers, 0) {
         return print(heap, &[refused(refusal, Within::Left)]);
     }
     if let Some(refusal) = refusal(answers, 1) {
         return print(heap, &[refused(refusal, Within::Right)]);
     }
-    let lines = lines(heap, &pairs, &answers[2..])?;
+    let lines = lines(heap, pairs, &answers[2..])?;
     print(heap, &lines)
 }
 
