@@ -39,24 +39,24 @@ use Rattle.review.specs.Reports.{refusal_line, PairLine, PairLines, Judged}
 
 -- asks leave the folders as they are
 
-no_put : (w : WhichFolder) (ps : List Pair) (i : ℕ) → flat_map (put_by w) (take i (asks_of ps)) ≡ []
-no_put w ps zero = refl
-no_put w [] (suc i) = refl
-no_put w (p ∷ ps) (suc i) = no_put w ps i
+no_put : (w : WhichFolder) (ps : List Pair) (m i : ℕ) → flat_map (put_by w) (take i (asks_of ps m)) ≡ []
+no_put w ps m zero = refl
+no_put w [] m (suc i) = refl
+no_put w (p ∷ ps) m (suc i) = no_put w ps m i
 
-none_renews : (w : WhichFolder) (ps : List Pair) (i k : ℕ) (c : CallMeaning) → slice_get (take i (asks_of ps)) k ≡ Some c → renews w c ≡ false
-none_renews w ps zero k c e = cc
-none_renews w [] (suc i) k c e = cc
-none_renews w (p ∷ ps) (suc i) zero c e = let is : ask (question_of p) (replicate longest 0) ≡ c = cc in subst (λ x. renews w x ≡ false) is refl
-none_renews w (p ∷ ps) (suc i) (suc k) c e = none_renews w ps i k c e
+none_renews : (w : WhichFolder) (ps : List Pair) (m i k : ℕ) (c : CallMeaning) → slice_get (take i (asks_of ps m)) k ≡ Some c → renews w c ≡ false
+none_renews w ps m zero k c e = cc
+none_renews w [] m (suc i) k c e = cc
+none_renews w (p ∷ ps) m (suc i) zero c e = let is : ask (question_of p) (replicate m 0) ≡ c = cc in subst (λ x. renews w x ≡ false) is refl
+none_renews w (p ∷ ps) m (suc i) (suc k) c e = none_renews w ps m i k c e
 
-module _ (G H : Graph) (ps : List Pair) where
+module _ (G H : Graph) (ps : List Pair) (m : ℕ) where
   -- the calls before the ask of pair i
   abbrev before : ℕ → List CallMeaning
-  before i = summarise First ∷ summarise Second ∷ take i (asks_of ps)
+  before i = summarise First ∷ summarise Second ∷ take i (asks_of ps m)
 
   stays : (w : WhichFolder) (i : ℕ) → in_force w G H (before i) ≡ by_which G H w
-  stays w i = ap (last_of (by_which G H w)) (no_put w ps i)
+  stays w i = ap (last_of (by_which G H w)) (no_put w ps m i)
 
   done : (w : WhichFolder) (i : ℕ) → (j : ℕ) × SummarisedBy w (before i) j
   done First i = (0, record { call = refl; last = after })
@@ -64,13 +64,13 @@ module _ (G H : Graph) (ps : List Pair) where
       after : (k : ℕ) (c : CallMeaning) → 0 < k → slice_get (before i) k ≡ Some c → renews First c ≡ false
       after zero c h e = absurd (omega arith)
       after (suc zero) c h e = let is : summarise Second ≡ c = cc in subst (λ x. renews First x ≡ false) is refl
-      after (suc (suc k)) c h e = none_renews First ps i k c e
+      after (suc (suc k)) c h e = none_renews First ps m i k c e
   done Second i = (1, record { call = refl; last = after })
     where
       after : (k : ℕ) (c : CallMeaning) → 1 < k → slice_get (before i) k ≡ Some c → renews Second c ≡ false
       after zero c h e = absurd (omega arith)
       after (suc zero) c h e = absurd (omega arith)
-      after (suc (suc k)) c h e = none_renews Second ps i k c e
+      after (suc (suc k)) c h e = none_renews Second ps m i k c e
 
   ready : (w : WhichFolder) (i : ℕ) → Accepted (by_which G H w) → IsSummarised w G H (before i)
   ready w i a = (done w i, subst Accepted (sym (stays w i)) a)
@@ -79,27 +79,39 @@ module _ (G H : Graph) (ps : List Pair) where
   not_lacking w i a (inl never) = let d = done w i in absurd (never d.0 d.1)
   not_lacking w i a (inr some) = absurd (accepted_not_refused (by_which G H w) some.0 a (subst (λ K. Refused K some.0) (stays w i) some.1))
 
-  -- the line of an answer
-  pair_line : (i : ℕ) (p : Pair) (r : asking.Answer) (after : List ℕ) → Accepted G → Accepted H
-      → Answered (λ s. IsSummarised (folder_at (question_of p) s) G H (before i)) (λ s. NotSummarised (folder_at (question_of p) s) G H (before i)) G H p.left p.right (replicate longest 0) r after
-      → PairLine G H p (told p (asked (numbered ask_refusal r) after))
-  pair_line i p (Ok Never) after a b h = let s = h.says in inr (inl (s.2, s.3, refl))
-  pair_line i p (Ok (Reached n)) after a b h =
-      let s = h.says in
+  -- what an ask of pair i says: both folders have a summary
+  abbrev pub Asked : ℕ → Pair → asking.Answer → List ℕ → Type 0
+  Asked i p r after =
+      Answered (λ s. IsSummarised (folder_at (question_of p) s) G H (before i)) (λ s. NotSummarised (folder_at (question_of p) s) G H (before i)) G H p.left p.right (replicate m 0) r after
+
+  pub no_summary_missing : {X : Type 0} (i : ℕ) (p : Pair) (s : Side) (after : List ℕ) → Accepted G → Accepted H → Asked i p (Err (NoSummary s)) after → X
+  no_summary_missing i p Left after a b h = not_lacking First i a h.says
+  no_summary_missing i p Right after a b h = not_lacking Second i b h.says.1
+
+  pub many_moves : (i : ℕ) (p : Pair) (n : ℕ) (after : List ℕ) → Asked i p (Ok (Reached n)) after → length (take n after) ≡ n
+  many_moves i p n after h =
       let list = h.list in
-      let within = s.4 in
+      let within = h.says.4 in
       let long = list.0 in
-      let many : length (take n after) ≡ n = length-take-le n after (omega arith) in
-      inr (inr (take n after, s.2, h.moves, subst (LeastLength G H p.left p.right) (sym many) s.3, refl))
-  pair_line i p (Err (NoSummary Left)) after a b h = not_lacking First i a h.says
-  pair_line i p (Err (NoSummary Right)) after a b h = not_lacking Second i b h.says.1
-  pair_line i p (Err (NoLocation s)) after a b h = inl (s, h.says.2, refl)
-  pair_line i p (Err (TooShort n)) after a b h =
+      length-take-le n after (omega arith)
+
+  pub not_too_short : (i : ℕ) (p : Pair) (n : ℕ) (after : List ℕ) → Accepted G → Accepted H → Asked i p (Err (TooShort n)) after → m < longest
+  not_too_short i p n after a b h =
       let s = h.says in
       let bound = h.not_long (ready First i a) (ready Second i b) n s.3 in
-      let many : length (replicate {A = ℕ} longest 0) ≡ longest = length-replicate {A = ℕ} longest 0 in
+      let many : length (replicate {A = ℕ} m 0) ≡ m = length-replicate {A = ℕ} m 0 in
       let past = s.4 in
-      absurd (omega arith)
+      omega arith
+
+-- the line of an answer, where the lists are long enough
+pair_line : (G H : Graph) (ps : List Pair) (i : ℕ) (p : Pair) (r : asking.Answer) (after : List ℕ) → Accepted G → Accepted H → Asked G H ps longest i p r after → PairLine G H p (told p (asked (numbered ask_refusal r) after))
+pair_line G H ps i p (Ok Never) after a b h = let s = h.says in inr (inl (s.2, s.3, refl))
+pair_line G H ps i p (Ok (Reached n)) after a b h =
+    let s = h.says in
+    inr (inr (take n after, s.2, h.moves, subst (LeastLength G H p.left p.right) (sym (many_moves G H ps longest i p n after h)) s.3, refl))
+pair_line G H ps i p (Err (NoSummary s)) after a b h = no_summary_missing G H ps longest i p s after a b h
+pair_line G H ps i p (Err (NoLocation s)) after a b h = inl (s, h.says.2, refl)
+pair_line G H ps i p (Err (TooShort n)) after a b h = let short = not_too_short G H ps longest i p n after a b h in absurd (omega arith)
 
 -- a run of these calls
 
@@ -118,7 +130,7 @@ behind_two (x ∷ []) i = refl
 behind_two (x ∷ y ∷ xs) i = refl
 
 module _ {A B : Type 0} (f : A → Graph) (g : B → Graph) where
-  abbrev means : Answer A B → AnswerMeaning
+  abbrev pub means : Answer A B → AnswerMeaning
   means = answer_meaning f g
 
   -- what a summarise says by its answer: the refusal that applies, or that the graph is accepted
@@ -161,18 +173,18 @@ in_lines : (ls : List Line) → lines_text ls ≡ flat_map (λ line. line) (map 
 in_lines [] = refl
 in_lines (l ∷ ls) = ap (λ xs. line_text l ++ xs) (in_lines ls)
 
-module _ {A B : Type 0} (f : A → Graph) (g : B → Graph) (a : A) (b : B) (cs : List (Call A B)) (ran : Outcome A B) (right : RunRight f g a b cs ran) (ps : List Pair) (script : map (call_meaning f g) cs ≡ review_calls ps) where
+module _ {A B : Type 0} (f : A → Graph) (g : B → Graph) (a : A) (b : B) (cs : List (Call A B)) (ran : Outcome A B) (right : RunRight f g a b cs ran) (ps : List Pair) (m : ℕ) (script : map (call_meaning f g) cs ≡ review_calls ps m) where
   abbrev answers : List (Answer A B)
   answers = vec_items ran.answers
 
-  rules : KeepsTheRules (f a) (g b) (review_calls ps) (map (means f g) answers) right.tables
+  rules : KeepsTheRules (f a) (g b) (review_calls ps m) (map (means f g) answers) right.tables
   rules = subst (λ c. KeepsTheRules (f a) (g b) c (map (means f g) answers) right.tables) script right.rules
 
   pub as_many : length answers ≡ length ps + 2
   as_many =
       let all = rules.as_many in
       let long = length-map answers (means f g) in
-      let asks = length-map ps (λ p. ask (question_of p) (replicate longest 0)) in
+      let asks = length-map ps (λ p. ask (question_of p) (replicate m 0)) in
       omega arith
 
   answer_is : (n : ℕ) (x : Answer A B) → slice_get answers n ≡ Some x → slice_get (map (means f g) answers) n ≡ Some (means f g x)
@@ -184,16 +196,19 @@ module _ {A B : Type 0} (f : A → Graph) (g : B → Graph) (a : A) (b : B) (cs 
   right_summary : (x : Answer A B) → slice_get answers 1 ≡ Some x → Summed f g (g b) x
   right_summary x e = let rule = rules.each 1 (summarise Second) (means f g x) refl (answer_is 1 x e) in by_answer f g (g b) x rule.0 _ rule.1 rule.2
 
-  ask_line : (i : ℕ) (p : Pair) (x : Answer A B) → slice_get ps i ≡ Some p → slice_get answers (suc (suc i)) ≡ Some x → Accepted (f a) → Accepted (g b) → PairLine (f a) (g b) p (told p (means f g x))
-  ask_line i p x e h one two =
+  pub asked_of : (i : ℕ) (p : Pair) (x : Answer A B) → slice_get ps i ≡ Some p → slice_get answers (suc (suc i)) ≡ Some x → (r : asking.Answer) × (after : List ℕ) × (means f g x ≡ asked (numbered ask_refusal r) after) × Asked (f a) (g b) ps m i p r after
+  asked_of i p x e h =
       let q = question_of p in
-      let call = slice_get-map (λ r. ask (question_of r) (replicate longest 0)) ps i ∙ ap (option_map (λ r. ask (question_of r) (replicate longest 0))) e in
-      let rule = rules.each (suc (suc i)) (ask q (replicate longest 0)) (means f g x) call (answer_is (suc (suc i)) x h) in
-      let has = λ (s : Side). IsSummarised (folder_at q s) (f a) (g b) (before (f a) (g b) ps i) in
-      let lacks = λ (s : Side). NotSummarised (folder_at q s) (f a) (g b) (before (f a) (g b) ps i) in
-      let answered = subst (λ K. Answered has lacks (f a) K p.left p.right (replicate longest 0) rule.0 rule.1) (stays (f a) (g b) ps Second i)
-      (subst (λ K. Answered has lacks K (in_force Second (f a) (g b) (before (f a) (g b) ps i)) p.left p.right (replicate longest 0) rule.0 rule.1) (stays (f a) (g b) ps First i) rule.3) in
-      subst (λ z. PairLine (f a) (g b) p (told p z)) (sym rule.2) (pair_line (f a) (g b) ps i p rule.0 rule.1 one two answered)
+      let call = slice_get-map (λ r. ask (question_of r) (replicate m 0)) ps i ∙ ap (option_map (λ r. ask (question_of r) (replicate m 0))) e in
+      let rule = rules.each (suc (suc i)) (ask q (replicate m 0)) (means f g x) call (answer_is (suc (suc i)) x h) in
+      let has = λ (s : Side). IsSummarised (folder_at q s) (f a) (g b) (before (f a) (g b) ps m i) in
+      let lacks = λ (s : Side). NotSummarised (folder_at q s) (f a) (g b) (before (f a) (g b) ps m i) in (
+        rule.0,
+        rule.1,
+        rule.2,
+        subst (λ K. Answered has lacks (f a) K p.left p.right (replicate m 0) rule.0 rule.1) (stays (f a) (g b) ps m Second i)
+            (subst (λ K. Answered has lacks K (in_force Second (f a) (g b) (before (f a) (g b) ps m i)) p.left p.right (replicate m 0) rule.0 rule.1) (stays (f a) (g b) ps m First i) rule.3),
+      )
 
   some_answer : 2 ≤ length answers
   some_answer = let many = as_many in omega arith
@@ -216,40 +231,52 @@ module _ {A B : Type 0} (f : A → Graph) (g : B → Graph) (a : A) (b : B) (cs 
   pub accepted_right : Refuses answers 1 None → Accepted (g b)
   accepted_right h = let x = second_of_two answers some_answer in accepted_by (g b) 1 x.0 x.1 (right_summary x.0 x.1) h
 
-  pub refused_left : (r : Refusal) (text : List ℕ) → Refuses answers 0 (Some r) → text ≡ refusal_line r where_.Left → Judged (f a) (g b) ps text
-  refused_left r text h is = let d = refused_by (f a) 0 r left_summary h in inl (d.0, d.1, is ∙ ap (λ x. refusal_line x where_.Left) d.2)
+  pub first_refused : (r : Refusal) → Refuses answers 0 (Some r) → (d : SummariseFault) × Refused (f a) d × (r ≡ summarise_refusal d)
+  first_refused r h = refused_by (f a) 0 r left_summary h
 
-  pub refused_right : (r : Refusal) (text : List ℕ) → Refuses answers 0 None → Refuses answers 1 (Some r) → text ≡ refusal_line r where_.Right → Judged (f a) (g b) ps text
-  refused_right r text first h is = let d = refused_by (g b) 1 r right_summary h in inr (inl (d.0, accepted_left first, d.1, is ∙ ap (λ x. refusal_line x where_.Right) d.2))
+  pub second_refused : (r : Refusal) → Refuses answers 1 (Some r) → (d : SummariseFault) × Refused (g b) d × (r ≡ summarise_refusal d)
+  second_refused r h = refused_by (g b) 1 r right_summary h
 
-  pub judged : (ls : List Line) (text : List ℕ) → Refuses answers 0 None → Refuses answers 1 None → LinesTell ps (map (means f g) (drop 2 answers)) ls → text ≡ lines_text ls → Judged (f a) (g b) ps text
-  judged ls text first second tell is = inr (inr (
-    accepted_left first,
-    accepted_right second,
-    record {
-      lines = map line_text ls;
-      whole = is ∙ in_lines ls;
-      as_many = length-map ls line_text ∙ as_many_lines ps (map (means f g) (drop 2 answers)) ls tell;
-      each = each_line;
-    },
-  ))
-    where
-      some_at : (i : ℕ) (o : Option (Answer A B)) (z : AnswerMeaning) → o ≡ slice_get (drop 2 answers) i → option_map (means f g) o ≡ Some z → (x : Answer A B) × (slice_get (drop 2 answers) i ≡ Some x) × (z ≡ means f g x)
-      some_at i (Some x) z e h = (x, sym e, let same : z ≡ means f g x = cc in same)
-      some_at i None z e h = cc
+-- the lines of a run
 
-      each_line : (i : ℕ) (p : Pair) (line : List ℕ) → slice_get ps i ≡ Some p → slice_get (map line_text ls) i ≡ Some line → PairLine (f a) (g b) p line
-      each_line i p line e h =
-          let at = told_at ps (map (means f g) (drop 2 answers)) ls i p line tell e h in
-          let x = some_at i (slice_get (drop 2 answers) i) at.0 refl (sym (slice_get-map (means f g) (drop 2 answers) i) ∙ at.1) in
-          let line_is : line ≡ told p (means f g x.0) = at.2 ∙ ap (told p) x.2 in
-          subst (PairLine (f a) (g b) p) (sym line_is) (ask_line i p x.0 e (sym (behind_two answers i) ∙ x.1) (accepted_left first) (accepted_right second))
+some_at : {A B : Type 0} (f : A → Graph) (g : B → Graph) (o : Option (Answer A B)) (z : AnswerMeaning) → option_map (means f g) o ≡ Some z → (x : Answer A B) × (o ≡ Some x) × (z ≡ means f g x)
+some_at f g (Some x) z h = (x, refl, let same : z ≡ means f g x = cc in same)
+some_at f g None z h = cc
 
--- what is told of a run's answers is what is to be judged of its graphs
-pub told_judged : {A B : Type 0} (f : A → Graph) (g : B → Graph) (a : A) (b : B) (cs : List (Call A B)) (ran : Outcome A B) (right : RunRight f g a b cs ran) (ps : List Pair) (script : map (call_meaning f g) cs ≡ review_calls ps) (text : List ℕ) → Told ps (vec_items ran.answers) text → Judged (f a) (g b) ps text
-told_judged f g a b cs ran right ps script text (inl t) = refused_left f g a b cs ran right ps script t.0 text t.1 t.2
-told_judged f g a b cs ran right ps script text (inr (inl t)) = refused_right f g a b cs ran right ps script t.1.0 text t.0 t.1.1 t.1.2
-told_judged f g a b cs ran right ps script text (inr (inr t)) = judged f g a b cs ran right ps script t.2.0 text t.0 t.1 (t.2.1 f g) t.2.2
+module _ {A B : Type 0} (f : A → Graph) (g : B → Graph) (a : A) (b : B) (cs : List (Call A B)) (ran : Outcome A B) (right : RunRight f g a b cs ran) (ps : List Pair) (script : map (call_meaning f g) cs ≡ review_calls ps longest) where
+  abbrev behind : List (Answer A B)
+  behind = drop 2 (vec_items ran.answers)
+
+  each_line : (ls : List Line) → Accepted (f a) → Accepted (g b) → LinesTell ps (map (means f g) behind) ls → (i : ℕ) (p : Pair) (line : List ℕ) → slice_get ps i ≡ Some p → slice_get (map line_text ls) i ≡ Some line → PairLine (f a) (g b) p line
+  each_line ls one two tell i p line e h =
+      let at = told_at ps (map (means f g) behind) ls i p line tell e h in
+      let x = some_at f g (slice_get behind i) at.0 (sym (slice_get-map (means f g) behind i) ∙ at.1) in
+      let asked_so = asked_of f g a b cs ran right ps longest script i p x.0 e (sym (behind_two (vec_items ran.answers) i) ∙ x.1) in
+      let line_is : line ≡ told p (asked (numbered ask_refusal asked_so.0) asked_so.1) = at.2 ∙ ap (told p) (x.2 ∙ asked_so.2) in
+      subst (PairLine (f a) (g b) p) (sym line_is) (pair_line (f a) (g b) ps i p asked_so.0 asked_so.1 one two asked_so.3)
+
+  judged : (ls : List Line) (text : List ℕ) → Refuses (vec_items ran.answers) 0 None → Refuses (vec_items ran.answers) 1 None → LinesTell ps (map (means f g) behind) ls → text ≡ lines_text ls → Judged (f a) (g b) ps text
+  judged ls text first second tell is =
+      let one = accepted_left f g a b cs ran right ps longest script first in
+      let two = accepted_right f g a b cs ran right ps longest script second in
+      inr (inr (
+        one,
+        two,
+        record {
+          lines = map line_text ls;
+          whole = is ∙ in_lines ls;
+          as_many = length-map ls line_text ∙ as_many_lines ps (map (means f g) behind) ls tell;
+          each = each_line ls one two tell;
+        },
+      ))
+
+  -- what is told of a run's answers is what is to be judged of its graphs
+  pub told_judged : (text : List ℕ) → Told ps (vec_items ran.answers) text → Judged (f a) (g b) ps text
+  told_judged text (inl t) = let d = first_refused f g a b cs ran right ps longest script t.0 t.1 in inl (d.0, d.1, t.2 ∙ ap (λ x. refusal_line x where_.Left) d.2)
+  told_judged text (inr (inl t)) =
+      let d = second_refused f g a b cs ran right ps longest script t.1.0 t.1.1 in
+      inr (inl (d.0, accepted_left f g a b cs ran right ps longest script t.0, d.1, t.1.2 ∙ ap (λ x. refusal_line x where_.Right) d.2))
+  told_judged text (inr (inr t)) = judged t.2.0 text t.0 t.1 (t.2.1 f g) t.2.2
 
 -- a report of one line, and a report by the meaning of a review
 

@@ -1,8 +1,10 @@
 pub mod Commands
 pub mod Digits
+pub mod Entering
 pub mod Filling
 pub mod Fronts
 pub mod Judging
+pub mod Moves
 pub mod OneAnswer
 pub mod Reading
 pub mod Scripts

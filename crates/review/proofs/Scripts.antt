@@ -2,7 +2,6 @@
 use Rattle.std.proofs.Common.{◌≡◌, ℕ, ◌+◌, ◌<◌, ◌≤◌, List, [], ◌∷◌, ◌++◌, map, length, take, get_or, replicate, Ok, Err, Result, sym, refl, ap, ◌∙◌, arith}
 use Rattle.std.proofs.lemmas.List.{map-append, take_more}
 use Rattle.locks.specs.Graphs.{Graph}
-use Rattle.pairs.specs.Answers.{longest}
 use Rattle.runs.specs.declared.calls.Call.{Call}
 use Rattle.runs.specs.declared.calls.Question.{Question}
 use Rattle.runs.specs.declared.calls.WhichFolder.TheVariants.{First, Second}
@@ -16,12 +15,12 @@ pub added : {A B : Type 0} (s t : ScriptContents A B) (c : Call A B) (r : Result
 added s t c (Ok u) a h = a.1
 added s t c (Err d) a h = let full = a.0 in absurd (omega arith)
 
-pub asked_more : {A B : Type 0} (f : A → Graph) (g : B → Graph) (calls : List (Call A B)) (pairs : List Pair) (i : ℕ) (d : Pair) (c : Call A B) (q : Question) (list : List ℕ) → i < length pairs → call_meaning f g c ≡ ask q list → q ≡ question_of (get_or pairs i d) → list ≡ replicate longest 0 → map (call_meaning f g) calls ≡ review_calls (take i pairs) → map (call_meaning f g) (calls ++ c ∷ []) ≡ review_calls (take (i + 1) pairs)
-asked_more f g calls pairs i d c q list h is place zeros says =
-    let means : call_meaning f g c ≡ ask (question_of (get_or pairs i d)) (replicate longest 0) = is ∙ ap (λ x. ask x list) place ∙ ap (λ xs. ask (question_of (get_or pairs i d)) xs) zeros in
-    let one : asks_of (take (i + 1) pairs) ≡ asks_of (take i pairs) ++ ask (question_of (get_or pairs i d)) (replicate longest 0) ∷ [] =
-    ap asks_of (take_more pairs i d h) ∙ map-append (λ p. ask (question_of p) (replicate longest 0)) (take i pairs) (get_or pairs i d ∷ []) in
+pub asked_more : {A B : Type 0} (f : A → Graph) (g : B → Graph) (calls : List (Call A B)) (pairs : List Pair) (i : ℕ) (d : Pair) (c : Call A B) (q : Question) (list : List ℕ) (k : ℕ) → i < length pairs → call_meaning f g c ≡ ask q list → q ≡ question_of (get_or pairs i d) → list ≡ replicate k 0 → map (call_meaning f g) calls ≡ review_calls (take i pairs) k → map (call_meaning f g) (calls ++ c ∷ []) ≡ review_calls (take (i + 1) pairs) k
+asked_more f g calls pairs i d c q list k h is place zeros says =
+    let means : call_meaning f g c ≡ ask (question_of (get_or pairs i d)) (replicate k 0) = is ∙ ap (λ x. ask x list) place ∙ ap (λ xs. ask (question_of (get_or pairs i d)) xs) zeros in
+    let one : asks_of (take (i + 1) pairs) k ≡ asks_of (take i pairs) k ++ ask (question_of (get_or pairs i d)) (replicate k 0) ∷ [] =
+    ap (λ ps. asks_of ps k) (take_more pairs i d h) ∙ map-append (λ p. ask (question_of p) (replicate k 0)) (take i pairs) (get_or pairs i d ∷ []) in
     map-append (call_meaning f g) calls (c ∷ [])
     ∙ ap (λ xs. xs ++ call_meaning f g c ∷ []) says
-    ∙ ap (λ x. review_calls (take i pairs) ++ x ∷ []) means
+    ∙ ap (λ x. review_calls (take i pairs) k ++ x ∷ []) means
     ∙ ap (λ xs. summarise First ∷ summarise Second ∷ xs) (sym one)

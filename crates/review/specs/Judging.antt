@@ -3,7 +3,6 @@ use Rattle.std.specs.Prelude.{◌≡◌, ℕ, ◌⊎◌, List, [], ◌∷◌, �
 use Rattle.std.specs.List.{slice_get, flat_map}
 use Rattle.layers.specs.declared.renamed.Renamed.{Renamed}
 use Rattle.locks.specs.Graphs.{Graph}
-use Rattle.pairs.specs.Answers.{longest}
 use Rattle.pairs.specs.declared.answers.Verdict.TheVariants.{Never, Reached}
 use Rattle.readers.specs.declared.listing.place.Listing.{Listing}
 use Rattle.locks.specs.declared.refusals.Refusal.{Refusal}
@@ -26,16 +25,17 @@ use Rattle.review.specs.Lines.{newline, reached_text, never_text, missing_text, 
 abbrev pub question_of : Pair → Question
 question_of p = record { left = record { folder = First; location = p.left }; right = record { folder = Second; location = p.right } }
 
-abbrev pub asks_of : List Pair → List CallMeaning
-asks_of pairs = map (λ p. ask (question_of p) (replicate longest 0)) pairs
+-- an ask for each pair, with lists of k places
+abbrev pub asks_of : List Pair → ℕ → List CallMeaning
+asks_of pairs k = map (λ p. ask (question_of p) (replicate k 0)) pairs
 
 -- both summaries, and then each pair
-abbrev pub review_calls : List Pair → List CallMeaning
-review_calls pairs = summarise First ∷ summarise Second ∷ asks_of pairs
+abbrev pub review_calls : List Pair → ℕ → List CallMeaning
+review_calls pairs k = summarise First ∷ summarise Second ∷ asks_of pairs k
 
 -- whatever graphs mean, since no call has one
-abbrev pub ScriptSays : {A B : Type 0} → Script A B → List Pair → Type 0
-ScriptSays {A} {B} s pairs = (f : A → Graph) (g : B → Graph) → map (call_meaning f g) (written s).calls ≡ review_calls pairs
+abbrev pub ScriptSays : {A B : Type 0} → Script A B → List Pair → ℕ → Type 0
+ScriptSays {A} {B} s pairs k = (f : A → Graph) (g : B → Graph) → map (call_meaning f g) (written s).calls ≡ review_calls pairs k
 
 -- the text of an answer about a pair
 abbrev pub told : Pair → AnswerMeaning → List ℕ

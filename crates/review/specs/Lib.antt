@@ -1,6 +1,7 @@
 pub mod Commands
 pub mod Digits
 pub mod Entering
+pub mod Entries
 pub mod FileFaults
 pub mod Judging
 pub mod Limits

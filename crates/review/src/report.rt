@@ -3,4 +3,6 @@ mod judging;
 mod making;
 mod printing;
 
+pub(crate) use judging::script;
+pub(crate) use making::refusal;
 pub use making::report;

@@ -5,7 +5,6 @@ ghost use Rattle.review.specs.Judging.{question_of, ScriptSays, Tells, AllTell};
 use crate::lines::Line;
 use layers::renamed::Renamed;
 use pairs::answers::Verdict;
-use pairs::asking::most_moves;
 use readers::listing::Listing;
 use runs::calls::{Answer, Call, Question, Site, WhichFolder};
 use runs::scripts::Script;
@@ -14,15 +13,19 @@ use std::alloc::{AllocError, Global};
 
 pub(crate) type Right = Renamed<Listing>;
 
-// Both summaries, and then each pair.
-pub(crate) fn script(heap: Global, pairs: &[Pair]) -> Result<Script<Listing, Right>, AllocError>
-    ensures { IfOk result (λ s. ScriptSays s pairs.now) }
+// Both summaries, and then each pair, with a list of so many places.
+pub(crate) fn script<A: Drop, B: Drop>(
+    heap: Global,
+    pairs: &[Pair],
+    places: usize,
+) -> Result<Script<A, B>, AllocError>
+    ensures { IfOk result (λ s. ScriptSays s pairs.now places) }
 {
     let mut script = Script::new(heap, pairs.len() + 2)?;
     let _ = script.add(Call::Summarise(WhichFolder::First));
     let _ = script.add(Call::Summarise(WhichFolder::Second));
     for pair in pairs {
-        let list = vec![in heap; 0; most_moves()]?;
+        let list = vec![in heap; 0; places]?;
         let _ = script.add(Call::Ask(question(*pair), list));
     }
     Ok(script)

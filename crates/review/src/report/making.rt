@@ -9,6 +9,7 @@ use crate::lines::Line;
 use crate::report::judging::{Right, lines, script};
 use crate::report::printing::print;
 use locks::refusals::Refusal;
+use pairs::asking::most_moves;
 use readers::listing::Listing;
 use runs::calls::Answer;
 use runs::running::run;
@@ -30,7 +31,7 @@ fn judge(heap: Global, review: Review) -> Result<Vec<u8>, AllocError>
     ensures { IfOk result (λ text. Judged (left_graph (review_of review)) (right_graph (review_of review)) (review_of review).pairs text.items) }
 {
     let (left, right, pairs) = review.into_parts();
-    let script = script(heap, &pairs)?;
+    let script = script(heap, &pairs, most_moves())?;
     let ran = run(Room::new(heap)?, Room::new(heap)?, left, right, script);
     tell(heap, &pairs, &ran.answers)
 }
@@ -65,7 +66,7 @@ fn refused(refusal: Refusal, within: Within) -> Line<'static>
 }
 
 // The refusal of the summary that this answer is of.
-fn refusal(answers: &[Answer<Listing, Right>], place: usize) -> Option<Refusal>
+pub(crate) fn refusal<A, B>(answers: &[Answer<A, B>], place: usize) -> Option<Refusal>
     ensures { Refuses answers.now place result }
 {
     match answers.get(place) {

@@ -4,8 +4,8 @@ use Rattle.review.specs.Judging.{ScriptSays}
 use Rattle.review.proofs.report.judging.script.Given as goal
 
 abbrev pub invariant-loop-pair : goal.invariant-loop-pair
-invariant-loop-pair l = record {
-  says : ScriptSays l.script (take l.pair-index l.pairs);
+invariant-loop-pair g l = record {
+  says : ScriptSays l.script (take l.pair-index l.pairs) l.places;
   many : length (written l.script).calls ≡ l.pair-index + 2;
   most : (written l.script).most ≡ length l.pairs + 2;
 }

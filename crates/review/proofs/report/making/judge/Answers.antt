@@ -1,4 +1,5 @@
 use Rattle.std.proofs.Common.{◌≡◌, length, map, vec_items, sym, ap, subst, ◌∙◌, arith}
+use Rattle.pairs.specs.Answers.{longest}
 use Rattle.runs.specs.Calls.{call_meaning}
 use Rattle.review.specs.Judging.{review_calls, Told}
 use Rattle.review.specs.Reports.{left_graph, right_graph, Judged}
@@ -9,14 +10,14 @@ use Rattle.review.proofs.report.making.judge.Goals as goal
 pub tell-requires : goal.tell-requires
 tell-requires c =
     let pairs = vec_items c.into_parts-left.result.2 in
-    let script = c.in_ok-script.ensures _ _ ∙ ap review_calls c.deref.ensures.value in
-    ap length c.deref-3.ensures.value ∙ as_many _ _ _ _ _ c.run-ran.result c.run-ran.ensures.right pairs script ∙ (let q = ap length c.deref-2.ensures.value in omega arith)
+    let script = c.in_ok-script.ensures _ _ ∙ ap (λ ps. review_calls ps c.most_moves.result) c.deref.ensures.value ∙ ap (review_calls pairs) c.most_moves.ensures.value in
+    ap length c.deref-3.ensures.value ∙ as_many _ _ _ _ _ c.run-ran.result c.run-ran.ensures.right pairs longest script ∙ (let q = ap length c.deref-2.ensures.value in omega arith)
 
 pub returns : goal.returns
 returns c =
     let pairs = vec_items c.into_parts-left.result.2 in
     let answers = vec_items c.run-ran.result.answers in
-    let script = c.in_ok-script.ensures _ _ ∙ ap review_calls c.deref.ensures.value in
+    let script = c.in_ok-script.ensures _ _ ∙ ap (λ ps. review_calls ps c.most_moves.result) c.deref.ensures.value ∙ ap (review_calls pairs) c.most_moves.ensures.value in
     if_ok c.tell.result c.tell.ensures (λ text told.
     subst (λ m. Judged (left_graph m) (right_graph m) m.pairs (vec_items text)) c.into_parts-left.ensures
     (told_judged _ _ _ _ _ c.run-ran.result c.run-ran.ensures.right pairs script (vec_items text)
