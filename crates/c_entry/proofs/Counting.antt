@@ -1,0 +1,30 @@
+-- No schedule that is written into a run of bytes has too many moves to be told.
+use Rattle.std.proofs.Common.{◌≡◌, ℕ, ◌^◌, ◌/◌, ◌<◌, ◌≤◌, List, length, Ok, Err, Result, inl, inr, arith}
+use Rattle.locks.specs.declared.refusals.Refusal.{Refusal}
+use Rattle.locks.specs.Graphs.{Graph}
+use Rattle.pairs.specs.declared.answers.Verdict.{Verdict}
+use Rattle.pairs.specs.declared.answers.Verdict.TheVariants.{Never, Reached}
+use Rattle.search.specs.declared.threads.Pair.{Pair}
+use Rattle.review.specs.Entries.{ListingsSay, GraphsSay, AskSays}
+use Rattle.c_entry.specs.CNumbers.{FewMoves}
+
+by_ask : (G H : Graph) (p : Pair) (before after : List ℕ) (n : ℕ) → length before < 2 ^ 64 → AskSays G H p before (Ok (Reached n)) after → n < 2 ^ 63
+by_ask G H p before after n h (inl t) = let no = t.2 in cc
+by_ask G H p before after n h (inr (inl t)) = let no = t.2 in cc
+by_ask G H p before after n h (inr (inr (inl t))) = let no = t.4 in cc
+by_ask G H p before after n h (inr (inr (inr t))) = let is : n ≡ length t.0 = (let same = t.5 in cc) in let low = t.4 in omega arith
+
+by_graphs : (G H : Graph) (p : Pair) (before after : List ℕ) (n : ℕ) → length before < 2 ^ 64 → GraphsSay G H p before (Ok (Reached n)) after → n < 2 ^ 63
+by_graphs G H p before after n h (inl t) = let no = t.2 in cc
+by_graphs G H p before after n h (inr (inl t)) = let no = t.3 in cc
+by_graphs G H p before after n h (inr (inr t)) = by_ask G H p before after n h t.2
+
+by_listings : (l r : List ℕ) (p : Pair) (before after : List ℕ) (n : ℕ) → length before < 2 ^ 64 → ListingsSay l r p before (Ok (Reached n)) after → n < 2 ^ 63
+by_listings l r p before after n h (inl t) = let no = t.2 in cc
+by_listings l r p before after n h (inr (inl t)) = let no = t.4 in cc
+by_listings l r p before after n h (inr (inr t)) = by_graphs _ _ p before after n h t.4
+
+pub few_moves : (l r : List ℕ) (p : Pair) (before after : List ℕ) (q : Result Verdict Refusal) → length before < 2 ^ 64 → ListingsSay l r p before q after → FewMoves q
+few_moves l r p before after (Ok (Reached n)) h s = by_listings l r p before after n h s
+few_moves l r p before after (Ok Never) h s = tt
+few_moves l r p before after (Err e) h s = tt

@@ -1,0 +1,28 @@
+-- What a C program is answered.
+use Rattle.std.specs.Prelude.{◌≡◌, ℕ, ◌+◌, ◌-◌, ◌^◌, ◌<◌, ◌⊎◌, List, ℤ, pos, negsuc, Ok, Err, Result}
+use Rattle.locks.specs.declared.refusals.Refusal.{Refusal}
+use Rattle.pairs.specs.declared.answers.Verdict.{Verdict}
+use Rattle.pairs.specs.declared.answers.Verdict.TheVariants.{Never, Reached}
+use Rattle.review.specs.Entries.{ListingsSay}
+
+-- the count of moves, −1 for never, or −(100 + number) for a refusal; negsuc n is −(n + 1)
+abbrev pub c_number : Result Verdict Refusal → ℤ
+c_number (Ok (Reached n)) = pos n
+c_number (Ok Never) = negsuc 0
+c_number (Err r) = negsuc (99 + r.number)
+
+-- a count of moves that a signed number of 64 bits can have
+abbrev pub FewMoves : Result Verdict Refusal → Type 0
+FewMoves (Ok (Reached n)) = n < 2 ^ 63
+FewMoves (Ok Never) = Unit {0}
+FewMoves (Err r) = Unit {0}
+
+-- the least number of 64 bits
+abbrev pub no_memory : ℤ
+no_memory = negsuc (2 ^ 63 - 1)
+
+-- the number of what is to be said of the listings and the run of bytes after it, or that memory is wanting
+abbrev pub CAnswers : List ℕ → List ℕ → ℕ → ℕ → List ℕ → ℤ → List ℕ → Type 0
+CAnswers l r a b before n after =
+    ((q : Result Verdict Refusal) × ListingsSay l r (record { left = a; right = b }) before q after × (n ≡ c_number q))
+    ⊎ ((n ≡ no_memory) × (after ≡ before))

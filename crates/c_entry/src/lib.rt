@@ -1,0 +1,48 @@
+// The entry for C programs.
+#![tactic(auto)]
+
+ghost use Rattle.std.specs.Prelude.{◌≡◌};
+ghost use Rattle.c_entry.specs.CNumbers.{c_number, CAnswers, FewMoves};
+
+use locks::refusals::Refusal;
+use pairs::answers::Verdict;
+use review::entry::verdict;
+use search::threads::Pair;
+use std::alloc::Global;
+
+// The answer to want of memory, which no refusal is.
+const NO_MEMORY: i64 = i64::MIN;
+
+// Of two listings and a pair: the count of moves, -1 for never, or -(100 + number) for a refusal. The moves go to the
+// front of the run, two bytes each, the higher first.
+#[unsafe(no_mangle)]
+pub extern "C" fn pair_verdict(
+    left: &[u8],
+    right: &[u8],
+    left_location: u32,
+    right_location: u32,
+    moves: &mut [u8],
+    heap: Global,
+) -> i64
+    ensures { CAnswers left.now right.now left_location right_location moves.old result moves.new }
+{
+    let pair = Pair {
+        left: left_location,
+        right: right_location,
+    };
+    match verdict(heap, left, right, pair, moves) {
+        Ok(answer) => number(answer),
+        Err(_) => NO_MEMORY,
+    }
+}
+
+fn number(answer: Result<Verdict, Refusal>) -> i64
+    requires { FewMoves answer }
+    ensures { result ≡ c_number answer }
+{
+    match answer {
+        Ok(Verdict::Reached(count)) => count as i64,
+        Ok(Verdict::Never) => -1,
+        Err(refusal) => -100 - i64::from(refusal.number),
+    }
+}
