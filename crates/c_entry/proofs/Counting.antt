@@ -1,5 +1,5 @@
 -- No schedule that is written into a run of bytes has too many moves to be told.
-use Rattle.std.proofs.Common.{◌≡◌, ℕ, ◌^◌, ◌/◌, ◌<◌, ◌≤◌, List, length, Ok, Err, Result, inl, inr, arith}
+use Rattle.std.proofs.Common.{◌≡◌, ℕ, ◌^◌, ◌<◌, List, length, Ok, Err, Result, inl, inr, arith}
 use Rattle.locks.specs.declared.refusals.Refusal.{Refusal}
 use Rattle.locks.specs.Graphs.{Graph}
 use Rattle.pairs.specs.declared.answers.Verdict.{Verdict}

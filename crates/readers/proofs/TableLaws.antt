@@ -1,5 +1,5 @@
 -- Records by location, as a list of them grows, and the graph of a whole table.
-use Rattle.std.proofs.Common.{◌≡◌, ◌≢◌, ℕ, zero, suc, ◌≤◌, ◌+◌, ◌<◌, cond, eqb, List, [], ◌∷◌, ◌++◌, map, length, take, drop, set, get_or, Some, None, Option, sym, refl, ap, subst, ◌∙◌, ⊎_elim, arith, true, false}
+use Rattle.std.proofs.Common.{◌≡◌, ℕ, zero, suc, ◌≤◌, ◌+◌, ◌<◌, eqb, List, [], ◌∷◌, ◌++◌, map, length, take, drop, set, get_or, Some, None, Option, sym, refl, ap, subst, ◌∙◌, ⊎_elim, arith, true, false}
 use Rattle.std.specs.Prelude.{All, Ok}
 use Rattle.std.specs.List.{slice_get}
 use Rattle.std.specs.Option.{option_map, is_some}

@@ -1,5 +1,5 @@
 -- The steps of a graph by location, as a place of a table keeps them.
-use Rattle.std.specs.Prelude.{◌≡◌, ℕ, List, [], ◌∷◌, map, take, length, replicate, slice_index_or}
+use Rattle.std.specs.Prelude.{◌≡◌, ℕ, List, [], map, take, length, replicate, slice_index_or}
 use Rattle.locks.specs.declared.steps.Step.{Step}
 use Rattle.locks.specs.Graphs.{Graph}
 use Rattle.readers.specs.declared.table.record.Record.{Record}

@@ -1,5 +1,5 @@
 -- What the answers to the calls about one pair say of its graphs.
-use Rattle.std.proofs.Common.{◌≡◌, ℕ, suc, ◌+◌, ◌*◌, ◌/◌, ◌<◌, ◌≤◌, ◌⊎◌, List, [], ◌∷◌, ◌++◌, map, length, take, drop, replicate, Some, None, Option, Ok, Err, Result, vec_items, sym, refl, ap, subst, ◌∙◌, inl, inr, arith}
+use Rattle.std.proofs.Common.{◌≡◌, ℕ, ◌*◌, ◌/◌, ◌<◌, ◌≤◌, List, [], ◌∷◌, ◌++◌, map, length, take, drop, replicate, Some, Ok, Err, Result, vec_items, sym, refl, ap, subst, ◌∙◌, inl, inr, arith}
 use Rattle.std.specs.List.{slice_get}
 use Rattle.std.proofs.lemmas.List.{length-replicate}
 use Rattle.locks.specs.declared.refusals.Refusal.{Refusal}
@@ -21,10 +21,9 @@ use Rattle.runs.specs.declared.running.Outcome.{Outcome}
 use Rattle.runs.specs.Calls.{asked, numbered, call_meaning}
 use Rattle.runs.specs.Running.{RunRight}
 use Rattle.search.specs.declared.threads.Pair.{Pair}
-use Rattle.search.specs.Faults.{summarise_refusal}
 use Rattle.search.specs.Summarising.{Accepted}
 use Rattle.review.specs.Entries.{moves_bytes, AskSays, GraphsSay, AskTold, Ran}
-use Rattle.review.specs.Judging.{Refuses, review_calls}
+use Rattle.review.specs.Judging.{review_calls}
 use Rattle.review.proofs.Judging.{means, Asked, no_summary_missing, many_moves, as_many, asked_of, accepted_left, accepted_right, first_refused, second_refused}
 
 module _ (G H : Graph) (p : Pair) (before : List ℕ) where
@@ -51,9 +50,15 @@ module _ (G H : Graph) (p : Pair) (before : List ℕ) where
       let many = many_moves G H (p ∷ []) places 0 p m after h in
       let made : take n (vec_items list) ≡ take m after = ap (λ k. take k (vec_items list)) same ∙ ap (take m) items in
       let count : n ≡ length (take m after) = same ∙ sym many in
-      inr (inr (inr (take m after, s.2, h.moves, subst (LeastLength G H p.left p.right) (sym many) s.3, (let low : length (take m after) ≤ places = omega arith in low),
+      inr (inr (inr (
+        take m after,
+        s.2,
+        h.moves,
+        subst (LeastLength G H p.left p.right) (sym many) s.3,
+        (let low : length (take m after) ≤ places = omega arith in low),
         told.0 ∙ ap (λ k. Ok (Reached k)) count,
-        told.1 ∙ ap (λ xs. moves_bytes xs ++ drop (2 * n) before) made ∙ ap (λ k. moves_bytes (take m after) ++ drop (2 * k) before) count)))
+        told.1 ∙ ap (λ xs. moves_bytes xs ++ drop (2 * n) before) made ∙ ap (λ k. moves_bytes (take m after) ++ drop (2 * k) before) count,
+      )))
   by_ask f g (back.Asked (Err d) list) (Ok v) after q run a b e h t = cc
   by_ask f g (back.Asked (Err d) list) (Err (NoSummary s)) after q run a b e h t = no_summary_missing G H (p ∷ []) places 0 p s after a b h
   by_ask f g (back.Asked (Err d) list) (Err (NoLocation s)) after q run a b e h t =

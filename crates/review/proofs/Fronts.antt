@@ -1,5 +1,5 @@
 -- How the front of a file grows while it is read, and what has been read by then.
-use Rattle.std.proofs.Common.{◌≡◌, ℕ, ◌+◌, ◌*◌, ◌<◌, ◌≤◌, List, [], ◌∷◌, ◌++◌, map, length, Ok, Err, Result, sym, refl, ap, subst, ◌∙◌, inl, inr, append_assoc, arith, length-append, append-nil}
+use Rattle.std.proofs.Common.{◌≡◌, ℕ, List, [], ◌∷◌, ◌++◌, map, Ok, Err, Result, sym, refl, ap, ◌∙◌, inl, inr, append_assoc, append-nil}
 use Rattle.std.specs.List.{AllByRecursion}
 use Rattle.std.proofs.lemmas.Grind.{flat_map-append}
 use Rattle.std.proofs.lemmas.List.{map-append}
@@ -18,10 +18,8 @@ use Rattle.review.specs.declared.file.section.Section.{Section}
 use Rattle.review.specs.declared.file.section.Section.TheVariants as code
 use Rattle.review.specs.Commands.{Command, left, right, rename, pair, end, kind_of, written, encode, Sized}
 use Rattle.review.specs.Entering.{Entered, carried}
-use Rattle.review.specs.Limits.{most_bytes}
 use Rattle.review.specs.Order.{Allowed, InOrder, phase_after, phase_behind}
-use Rattle.review.specs.Readers.{Standing, TookOff}
-use Rattle.review.specs.Reviews.{Meaning, Front, Sound, Written, NumbersFrom, file_commands}
+use Rattle.review.specs.Reviews.{Meaning, Front, Sound, NumbersFrom}
 use Rattle.review.specs.Sections.{command_of}
 use Rattle.review.specs.Taking.{Stands}
 

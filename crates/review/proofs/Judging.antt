@@ -1,5 +1,5 @@
 -- What the answers to the calls of a review say of its threads and its pairs.
-use Rattle.std.proofs.Common.{◌≡◌, ℕ, zero, suc, ◌+◌, ◌-◌, ◌<◌, ◌≤◌, ◌⊎◌, false, List, [], ◌∷◌, ◌++◌, map, length, take, drop, replicate, Some, None, Option, Ok, Err, Result, vec_items, sym, refl, ap, subst, ◌∙◌, inl, inr, ⊎_elim, append-nil, arith}
+use Rattle.std.proofs.Common.{◌≡◌, ℕ, zero, suc, ◌+◌, ◌-◌, ◌<◌, ◌≤◌, ◌⊎◌, false, List, [], ◌∷◌, ◌++◌, map, length, take, drop, replicate, Some, None, Option, Ok, Err, Result, vec_items, sym, refl, ap, subst, ◌∙◌, inl, inr, append-nil, arith}
 use Rattle.std.specs.Prelude.{IfOk}
 use Rattle.std.specs.List.{slice_get, flat_map}
 use Rattle.std.specs.Option.{option_map}
@@ -9,7 +9,7 @@ use Rattle.locks.specs.declared.refusals.Refusal.{Refusal}
 use Rattle.locks.specs.declared.together.Side.{Side}
 use Rattle.locks.specs.declared.together.Side.TheVariants.{Left, Right}
 use Rattle.locks.specs.Graphs.{Graph}
-use Rattle.locks.specs.Shortest.{LeastLength, NoSchedule}
+use Rattle.locks.specs.Shortest.{LeastLength}
 use Rattle.pairs.specs.Answers as asking
 use Rattle.pairs.specs.Answers.{longest, Answered, ask_refusal}
 use Rattle.pairs.specs.declared.answers.AskFault.TheVariants.{NoSummary, NoLocation, TooShort}
@@ -17,12 +17,11 @@ use Rattle.pairs.specs.declared.answers.Verdict.TheVariants.{Never, Reached}
 use Rattle.runs.specs.declared.calls.Answer.{Answer}
 use Rattle.runs.specs.declared.calls.Answer.TheVariants as back
 use Rattle.runs.specs.declared.calls.Call.{Call}
-use Rattle.runs.specs.declared.calls.Question.{Question}
 use Rattle.runs.specs.declared.calls.WhichFolder.{WhichFolder}
 use Rattle.runs.specs.declared.calls.WhichFolder.TheVariants.{First, Second}
 use Rattle.runs.specs.declared.running.Outcome.{Outcome}
 use Rattle.runs.specs.Calls.{CallMeaning, AnswerMeaning, summarise, ask, summarised, asked, numbered, call_meaning, answer_meaning, in_force, by_which, last_of, put_by, renews, folder_at}
-use Rattle.runs.specs.Rules.{Rule, KeepsTheRules, IsSummarised, NotSummarised, SummarisedBy, NeverSince, SomeRefusal}
+use Rattle.runs.specs.Rules.{KeepsTheRules, IsSummarised, NotSummarised, SummarisedBy}
 use Rattle.runs.specs.Running.{RunRight}
 use Rattle.search.specs.declared.entries.Entry.{Entry}
 use Rattle.search.specs.declared.faults.SummariseFault.{SummariseFault}
@@ -35,7 +34,7 @@ use Rattle.review.specs.declared.file.fault.Within.TheVariants as where_
 use Rattle.review.specs.declared.lines.line.Line.{Line}
 use Rattle.review.specs.Judging.{Told, question_of, asks_of, review_calls, told, LinesTell, Refuses, lines_text}
 use Rattle.review.specs.Lines.{line_text}
-use Rattle.review.specs.Reports.{refusal_line, PairLine, PairLines, Judged}
+use Rattle.review.specs.Reports.{refusal_line, PairLine, Judged}
 
 -- asks leave the folders as they are
 

@@ -18,7 +18,7 @@ use Rattle.review.specs.Commands.{Command, left, right, rename, pair, end, kind_
 use Rattle.review.specs.Limits.{most_bytes}
 use Rattle.review.specs.Order.{Allowed, InOrder, phase_after, phase_behind}
 use Rattle.review.specs.Reviews.{Meaning, Front, FaultIn, Written, Sound, FileSays, NumbersFrom, FilesReadBack, file_commands}
-use Rattle.review.specs.Taking.{Forbidden, CutShort, EndsThere, Stands}
+use Rattle.review.specs.Taking.{Forbidden, EndsThere, Stands}
 use Rattle.review.proofs.Commands.{Compared, same, longer, shorter, compare, prefix_free}
 use Rattle.review.proofs.Fronts.{Body, pair_of}
 

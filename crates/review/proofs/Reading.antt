@@ -1,9 +1,9 @@
 -- What is known of a file while it is read, and what the end of the reading says of it.
-use Rattle.std.proofs.Common.{◌≡◌, ℕ, ◌+◌, ◌*◌, ◌<◌, ◌≤◌, List, [], ◌∷◌, ◌++◌, length, Some, None, Option, Ok, Err, Result, sym, refl, ap, subst, ◌∙◌, arith, length-append, append-nil}
+use Rattle.std.proofs.Common.{◌≡◌, ℕ, ◌+◌, ◌*◌, ◌≤◌, List, [], ◌∷◌, ◌++◌, length, Ok, Err, Result, sym, refl, ap, subst, ◌∙◌, arith, length-append, append-nil}
 use Rattle.std.specs.List.{AllByRecursion}
 use Rattle.std.proofs.lemmas.List.{nil_from_length}
 use Rattle.layers.specs.declared.names.fault.NamesFault.{NamesFault}
-use Rattle.layers.specs.Naming.{NumbersAnswer, NamesSet}
+use Rattle.layers.specs.Naming.{NumbersAnswer}
 use Rattle.layers.specs.Numbers.{in_order}
 use Rattle.readers.specs.declared.listing.command.Command as listed
 use Rattle.readers.specs.declared.listing.fault.ListingFault.{ListingFault}
@@ -11,19 +11,18 @@ use Rattle.readers.specs.Place.{answer_of}
 use Rattle.readers.specs.Reading.{listing}
 use Rattle.review.specs.declared.file.fault.FileFault.{FileFault}
 use Rattle.review.specs.declared.file.fault.FileFault.TheVariants.{TooLong, EndsEarly, NotAllowed, InLeft, InRight, InNames}
-use Rattle.review.specs.declared.file.phase.Phase.{Phase}
 use Rattle.review.specs.declared.file.phase.Phase.TheVariants.{BeforeLeft, AfterEnd}
 use Rattle.review.specs.declared.file.section.Section.{Section}
 use Rattle.review.specs.declared.file.section.Section.TheVariants as code
-use Rattle.review.specs.Commands.{Command, left, right, rename, pair, end, kind_of, written, encode, Sized, header}
+use Rattle.review.specs.Commands.{Command, left, right, rename, kind_of, written, encode, Sized, header}
 use Rattle.review.specs.Entering.{Entered, carried}
 use Rattle.review.specs.Limits.{most_bytes}
-use Rattle.review.specs.Order.{phase_after, phase_behind}
+use Rattle.review.specs.Order.{phase_behind}
 use Rattle.review.specs.Readers.{Standing, StandsAt, TookOff, HandsOut}
-use Rattle.review.specs.Reviews.{Meaning, Front, FaultIn, Written, FileSays, file_commands}
-use Rattle.review.specs.Sections.{command_of, Begins}
+use Rattle.review.specs.Reviews.{Meaning, Front, FaultIn, Written, FileSays}
+use Rattle.review.specs.Sections.{command_of}
 use Rattle.review.specs.Taking.{Forbidden, EndsThere, Stands}
-use Rattle.review.proofs.Fronts.{Body, Shape, front_more, phase_push, shape_more, sound_section}
+use Rattle.review.proofs.Fronts.{Shape, front_more, phase_push, shape_more, sound_section}
 
 -- the commands so far are the front of the file, and what they say was entered
 pub record SoFar (bs : List ℕ) (s : Standing) (m : Meaning) : Type 0 where

@@ -1,5 +1,5 @@
 -- The commands of a review file, and how they are written.
-use Rattle.std.specs.Prelude.{◌≡◌, ℕ, ◌+◌, ◌<◌, List, [], ◌∷◌, ◌++◌, length}
+use Rattle.std.specs.Prelude.{◌≡◌, ℕ, ◌<◌, List, [], ◌∷◌, ◌++◌, length}
 use Rattle.std.specs.List.{flat_map}
 use Rattle.readers.specs.Encoding.{two_bytes}
 use Rattle.review.specs.declared.file.kind.CommandKind.{CommandKind}

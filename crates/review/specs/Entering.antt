@@ -1,12 +1,10 @@
 -- What one section adds to a review.
-use Rattle.std.specs.Prelude.{◌≡◌, ℕ, List, [], ◌∷◌, ◌++◌, Ok, Err, Result}
+use Rattle.std.specs.Prelude.{◌≡◌, [], ◌∷◌, ◌++◌, Ok, Err, Result}
 use Rattle.layers.specs.declared.names.fault.NamesFault.{NamesFault}
 use Rattle.layers.specs.Naming.{NamesSet}
 use Rattle.layers.specs.Numbers.{in_order}
-use Rattle.readers.specs.declared.listing.fault.ListingFault.{ListingFault}
 use Rattle.readers.specs.Place.{answer_of, commands_after}
 use Rattle.readers.specs.Reading.{listing}
-use Rattle.search.specs.declared.threads.Pair.{Pair}
 use Rattle.review.specs.declared.file.fault.FileFault.{FileFault}
 use Rattle.review.specs.declared.file.fault.FileFault.TheVariants.{InLeft, InRight, InNames}
 use Rattle.review.specs.declared.file.section.Section.{Section}

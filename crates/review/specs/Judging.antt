@@ -1,10 +1,8 @@
 -- The calls that a review makes, and the texts of their answers.
-use Rattle.std.specs.Prelude.{◌≡◌, ℕ, ◌⊎◌, List, [], ◌∷◌, ◌++◌, map, take, drop, length, replicate, Some, None, Ok, Err, Option, Result}
+use Rattle.std.specs.Prelude.{◌≡◌, ℕ, ◌⊎◌, List, [], ◌∷◌, ◌++◌, map, take, drop, replicate, Some, None, Ok, Err, Option}
 use Rattle.std.specs.List.{slice_get, flat_map}
-use Rattle.layers.specs.declared.renamed.Renamed.{Renamed}
 use Rattle.locks.specs.Graphs.{Graph}
 use Rattle.pairs.specs.declared.answers.Verdict.TheVariants.{Never, Reached}
-use Rattle.readers.specs.declared.listing.place.Listing.{Listing}
 use Rattle.locks.specs.declared.refusals.Refusal.{Refusal}
 use Rattle.search.specs.declared.faults.SummariseFault.{SummariseFault}
 use Rattle.search.specs.Faults.{summarise_refusal}

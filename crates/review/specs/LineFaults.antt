@@ -1,6 +1,4 @@
 -- The refusal of a line.
-use Rattle.std.specs.Prelude.{ℕ}
-use Rattle.locks.specs.declared.refusals.Part as parts
 use Rattle.locks.specs.declared.refusals.Part.TheVariants as part
 use Rattle.locks.specs.declared.refusals.Refusal.{Refusal}
 use Rattle.review.specs.declared.lines.fault.LineFault.{LineFault}

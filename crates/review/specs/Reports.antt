@@ -1,5 +1,5 @@
 -- What is printed of a review file.
-use Rattle.std.specs.Prelude.{◌≡◌, ℕ, ◌⊎◌, List, [], length, ◌++◌, Some, Ok, Err, Result}
+use Rattle.std.specs.Prelude.{◌≡◌, ℕ, ◌⊎◌, List, length, ◌++◌, Some, Ok, Err, Result}
 use Rattle.std.specs.List.{slice_get, flat_map}
 use Rattle.layers.specs.Renaming.{renamed_graph}
 use Rattle.locks.specs.declared.refusals.Refusal.{Refusal}
@@ -17,7 +17,7 @@ use Rattle.review.specs.declared.file.fault.FileFault.{FileFault}
 use Rattle.review.specs.declared.file.fault.Within.{Within}
 use Rattle.review.specs.declared.file.fault.Within.TheVariants as where_
 use Rattle.review.specs.FileFaults.{file_refusal, within}
-use Rattle.review.specs.Lines.{newline, pair_text, reached_text, never_text, missing_text, refused_text}
+use Rattle.review.specs.Lines.{newline, reached_text, never_text, missing_text, refused_text}
 use Rattle.review.specs.Reviews.{Meaning, FileSays}
 
 -- the graphs of the two threads; the right one's locks are renamed

@@ -1,12 +1,10 @@
 -- What a whole file says, or why it is refused.
 use Rattle.std.specs.Prelude.{◌≡◌, ℕ, ◌+◌, ◌<◌, ◌≤◌, List, [], ◌∷◌, ◌++◌, map, length, vec_items, Ok, Err, Result}
 use Rattle.std.specs.List.{AllByRecursion}
-use Rattle.layers.specs.declared.names.fault.NamesFault.{NamesFault}
 use Rattle.layers.specs.Naming.{numbers_in, NumbersAnswer}
 use Rattle.layers.specs.Numbers.{in_order}
 use Rattle.readers.specs.declared.listing.command.Command as listed
 use Rattle.readers.specs.declared.listing.command.Command.TheVariants.{Stop}
-use Rattle.readers.specs.declared.listing.fault.ListingFault.{ListingFault}
 use Rattle.readers.specs.Place.{commands_in}
 use Rattle.readers.specs.Reading.{listing}
 use Rattle.search.specs.declared.threads.Pair.{Pair}

@@ -1,5 +1,5 @@
 -- The sections that a reader hands out.
-use Rattle.std.specs.Prelude.{◌≡◌, ℕ, ◌+◌}
+use Rattle.std.specs.Prelude.{◌≡◌, ℕ}
 use Rattle.review.specs.declared.file.section.Section.{Section}
 use Rattle.review.specs.declared.file.section.Section.TheVariants as code
 use Rattle.review.specs.Commands.{Command, left, right, rename, pair, end}

@@ -1,4 +1,4 @@
-use Rattle.std.proofs.Common.{subst, arith}
+use Rattle.std.proofs.Common.{subst}
 use Rattle.std.proofs.lemmas.List.{take_all}
 use Rattle.readers.specs.TableRefusals.{AllFit}
 use Rattle.readers.proofs.TableLaws.{fit_more}

@@ -1,4 +1,4 @@
-use Rattle.std.proofs.Common.{vec_items, subst}
+use Rattle.std.proofs.Common.{subst}
 use Rattle.review.specs.Entries.{Ran}
 use Rattle.review.proofs.Entering.{ran_says}
 use Rattle.review.proofs.entry.answering.judge.Goals as goal

@@ -1,9 +1,7 @@
-use Rattle.std.proofs.Common.{◌≡◌, length, map, vec_items, sym, ap, subst, ◌∙◌, arith}
+use Rattle.std.proofs.Common.{length, vec_items, ap, subst, ◌∙◌, arith}
 use Rattle.pairs.specs.Answers.{longest}
-use Rattle.runs.specs.Calls.{call_meaning}
 use Rattle.review.specs.Judging.{review_calls, Told}
 use Rattle.review.specs.Reports.{left_graph, right_graph, Judged}
-use Rattle.review.specs.Reviews.{review_of, meaning_of}
 use Rattle.review.proofs.Judging.{as_many, told_judged, if_ok}
 use Rattle.review.proofs.report.making.judge.Goals as goal
 

@@ -1,4 +1,4 @@
-use Rattle.std.proofs.Common.{inr, vec_items, drop, sym, ap, subst, ◌∙◌}
+use Rattle.std.proofs.Common.{inr, vec_items, ap, subst, ◌∙◌}
 use Rattle.review.specs.Judging.{AllTell, lines_text}
 use Rattle.review.proofs.Judging.{if_ok, part_behind}
 use Rattle.review.proofs.report.making.tell.Goals as goal

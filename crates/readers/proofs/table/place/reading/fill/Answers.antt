@@ -1,4 +1,4 @@
-use Rattle.std.proofs.Common.{ap, ◌∙◌, subst, sym, arith}
+use Rattle.std.proofs.Common.{ap, ◌∙◌}
 use Rattle.std.specs.Prelude.{vec_capacity}
 use Rattle.readers.proofs.TableLaws.{row_has_room, row_entered}
 use Rattle.readers.proofs.table.place.reading.fill.Goals.{in-Some, in_default}
