@@ -238,8 +238,8 @@ static void all_pairs(void)
 static void small(void)
 {
     int locks[8];
-    struct style style = {locks, between(2, 3), between(1, 3), chance(30) ? 12 : 0, chance(10) ? 10 : 0, between(50, 90),
-        between(20, 70)};
+    struct style style = {locks, between(2, 3), between(1, 3), chance(30) ? 12 : 0, chance(10) ? 10 : 0,
+        between(50, 90), between(20, 70)};
     for (int i = 0; i < 8; i++)
         locks[i] = chance(50) ? i : below(8);
     if (chance(8)) { /* deep */
@@ -369,8 +369,8 @@ static void torn(void)
 /* One file cut at every length, with each byte changed, and with bytes after it */
 static void around(void)
 {
-    static const uint8_t to[] = {0, 1, 2, 3, 4, 5, 6, 7, 8, 9, 0x0f, 0x10, 0x11, 0x12, 0x13, 0x14, 0x1e, 0x1f, 0x20, 0x7f,
-        0x80, 0xfe, 0xff};
+    static const uint8_t to[] = {0, 1, 2, 3, 4, 5, 6, 7, 8, 9, 0x0f, 0x10, 0x11, 0x12, 0x13, 0x14, 0x1e, 0x1f, 0x20,
+        0x7f, 0x80, 0xfe, 0xff};
     save(&file, "whole");
     other = file;
     for (int n = 0; n < other.size; n++) {

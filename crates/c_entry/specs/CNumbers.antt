@@ -22,6 +22,7 @@ abbrev pub no_memory : ℤ
 no_memory = negsuc (2 ^ 63 - 1)
 
 -- the number of what is to be said of the listings and the run of bytes after it, or that memory is wanting
+-- what is to be said of the listings, as a number, or the number for want of memory with the run as it was
 abbrev pub CAnswers : List ℕ → List ℕ → ℕ → ℕ → List ℕ → ℤ → List ℕ → Type 0
 CAnswers l r a b before n after =
     ((q : Result Verdict Refusal) × ListingsSay l r (record { left = a; right = b }) before q after × (n ≡ c_number q))

@@ -14,7 +14,7 @@ use std::alloc::Global;
 const NO_MEMORY: i64 = i64::MIN;
 
 // Of two listings and a pair: the count of moves, -1 for never, or -(100 + number) for a refusal. The moves go to the
-// front of the run, two bytes each, the higher first.
+// front of the run, two bytes each, the higher first. In C a slice is a pointer and a length, and the heap is nothing.
 #[unsafe(no_mangle)]
 pub extern "C" fn pair_verdict(
     left: &[u8],

@@ -1,10 +1,10 @@
 -- Texts put one behind another.
-use Rattle.std.proofs.Common.{◌≡◌, ℕ, ◌+◌, ◌-◌, ◌<◌, ◌≤◌, ltb, List, [], ◌∷◌, ◌++◌, length, take, get_or, codes, sym, refl, ap, subst, ◌∙◌, append_assoc, append-nil}
+use Rattle.std.proofs.Common.{◌≡◌, ℕ, ◌+◌, ◌-◌, ◌<◌, ◌≤◌, ltb, List, [], ◌∷◌, ◌++◌, length, take, get_or, codes, sym, refl, ap, subst, ◌∙◌, append_assoc, append-nil, arith}
 use Rattle.std.specs.Fmt.{decimal}
 use Rattle.std.proofs.lemmas.Bool.{cond-true, cond-false, lt-ltb, le-ltb}
 use Rattle.std.proofs.lemmas.Grind.{flat_map-append}
 use Rattle.std.proofs.lemmas.List.{take_more}
-use Rattle.review.specs.Lines.{Filled, move_text, moves_text}
+use Rattle.review.specs.Lines.{Filled, move_text, moves_text, MovesAreTold}
 
 -- nothing is put yet
 pub nothing : (before : List ℕ) → Filled before [] before 0
@@ -28,3 +28,12 @@ moves_more before text after at ms i d h f =
     let more : moves_text (take (i + 1) ms) ≡ moves_text (take i ms) ++ move_text (get_or ms i d) =
     ap moves_text (take_more ms i d h) ∙ flat_map-append move_text (take i ms) (get_or ms i d ∷ []) ∙ ap (λ xs. moves_text (take i ms) ++ xs) one in
     subst (λ xs. Filled before (text ++ xs) after at) (sym more) (joined before after text (moves_text (take i ms)) (move_text (get_or ms i d)) at f)
+
+pub moves_are_told : MovesAreTold
+moves_are_told choice h =
+    let left = codes " L" ++ decimal choice in
+    let right = codes " R" ++ decimal (256 + choice - 256) in
+    let back : 256 + choice - 256 ≡ choice = omega arith in (
+      cond-true (ltb choice 256) left (codes " R" ++ decimal (choice - 256)) (lt-ltb choice 256 h),
+      cond-false (ltb (256 + choice) 256) (codes " L" ++ decimal (256 + choice)) right (le-ltb (256 + choice) 256 (omega arith)) ∙ ap (λ n. codes " R" ++ decimal n) back,
+    )

@@ -268,6 +268,6 @@ one_answer bs q r a b =
     (cases_lt most_bytes (length bs))
 
 pub files_read_back : FilesReadBack
-files_read_back l r renamings pairs lefts rights q within sized left_is right_is numbers says =
+files_read_back l r renamings pairs lefts rights ns q within sized left_is right_is numbers says =
     one_answer (encode (file_commands l r renamings pairs)) q _ says
     (within, record { left_bytes = l; right_bytes = r; renamings = renamings; whole = refl; sized = sized; lefts = left_is; rights = right_is; numbers = numbers })

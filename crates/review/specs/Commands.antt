@@ -1,5 +1,5 @@
 -- The commands of a review file, and how they are written.
-use Rattle.std.specs.Prelude.{◌≡◌, ℕ, ◌<◌, List, [], ◌∷◌, ◌++◌, length}
+use Rattle.std.specs.Prelude.{◌≡◌, ℕ, ◌<◌, List, [], ◌∷◌, ◌++◌, length, drop}
 use Rattle.std.specs.List.{flat_map}
 use Rattle.readers.specs.Encoding.{two_bytes}
 use Rattle.review.specs.declared.file.kind.CommandKind.{CommandKind}
@@ -51,10 +51,24 @@ Sized (pair a b) = (a < 65536) × (b < 65536)
 Sized (rename ns) = length ns ≡ 8
 Sized end = Unit {0}
 
--- how many bytes of a command stand before its section
+-- how many bytes of a command stand before its section; PAIR and END have none
 abbrev pub header : CommandKind → ℕ
 header kind.Left = 3
 header kind.Right = 3
 header kind.Pair = 1
 header kind.Rename = 1
 header kind.End = 1
+
+-- behind so many bytes of LEFT, RIGHT and RENAME stands the section, and nothing else
+abbrev pub SectionsStandBehindHeaders : Type 0
+SectionsStandBehindHeaders =
+    (bs : List ℕ)
+    → (drop (header kind.Left) (written (left bs)) ≡ bs)
+    × (drop (header kind.Right) (written (right bs)) ≡ bs)
+    × (drop (header kind.Rename) (written (rename bs)) ≡ bs)
+
+-- a worked file, byte by byte
+abbrev pub WorkedFileIsItsBytes : Type 0
+WorkedFileIsItsBytes =
+    encode (left (2 ∷ 0 ∷ 0 ∷ []) ∷ right (1 ∷ 0 ∷ []) ∷ rename (1 ∷ 0 ∷ 2 ∷ 3 ∷ 4 ∷ 5 ∷ 6 ∷ 7 ∷ []) ∷ pair 1 256 ∷ end ∷ [])
+    ≡ 16 ∷ 0 ∷ 3 ∷ 2 ∷ 0 ∷ 0 ∷ 17 ∷ 0 ∷ 2 ∷ 1 ∷ 0 ∷ 19 ∷ 1 ∷ 0 ∷ 2 ∷ 3 ∷ 4 ∷ 5 ∷ 6 ∷ 7 ∷ 18 ∷ 0 ∷ 1 ∷ 1 ∷ 0 ∷ 31 ∷ []

@@ -25,6 +25,7 @@ abbrev pub carried : {F : Type 0} → (F → FileFault) → Result (Unit {0}) F 
 carried as_file (Ok u) = Ok u
 carried as_file (Err f) = Err (as_file f)
 
+-- the section is read into the review, or its fault is carried
 abbrev pub Entered : Section → Meaning → Result (Unit {0}) FileFault → Meaning → Type 0
 Entered (code.Left bytes place) m r n =
     (r ≡ carried (λ f. InLeft f place) (answer_of (listing bytes.now)))

@@ -29,8 +29,8 @@ use Rattle.review.specs.Judging.{Refuses}
 abbrev pub moves_bytes : List ℕ → List ℕ
 moves_bytes ms = flat_map two_bytes ms
 
--- The answer to an ask and the run of bytes after it. The run has room for half as many moves as it has bytes: a
--- location is none, no schedule leads there, a shortest one has no room, or it is written at the front.
+-- The answer to an ask and the run of bytes after it: a location is not in its graph, no schedule leads there, a shortest
+-- one has no room, or it is written at the front. The run has room for half as many moves as it has bytes.
 abbrev pub AskSays : Graph → Graph → Pair → List ℕ → Result Verdict Refusal → List ℕ → Type 0
 AskSays G H p before q after =
     ((s : Side) × Missing G H p.left p.right s × (q ≡ Err (ask_refusal (NoLocation s))) × (after ≡ before))

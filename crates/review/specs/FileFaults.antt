@@ -1,5 +1,5 @@
 -- The refusals of a file.
-use Rattle.std.specs.Prelude.{ℕ}
+use Rattle.std.specs.Prelude.{ℕ, List, codes}
 use Rattle.layers.specs.NamesFaults.{names_refusal}
 use Rattle.locks.specs.declared.refusals.Part.TheVariants.{File}
 use Rattle.locks.specs.declared.refusals.Refusal.{Refusal}
@@ -30,3 +30,10 @@ within (NotAllowed at) = part.File
 within (InLeft f place) = part.Left
 within (InRight f place) = part.Right
 within (InNames f place) = part.Names
+
+-- the word for it
+abbrev pub within_name : Within → List ℕ
+within_name part.Left = codes "left"
+within_name part.Right = codes "right"
+within_name part.Names = codes "names"
+within_name part.File = codes "file"

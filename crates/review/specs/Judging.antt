@@ -45,7 +45,7 @@ told p (summarised r) = missing_text p ++ newline
 told p (entry_is e) = missing_text p ++ newline
 told p (replayed r moves) = missing_text p ++ newline
 
--- a line, and lines, are what answers say, whatever graphs mean
+-- the line is what the answer says, whatever graphs mean
 abbrev pub Tells : {A B : Type 0} → Pair → Answer A B → Line → Type 0
 Tells {A} {B} p a l = (f : A → Graph) (g : B → Graph) → line_text l ≡ told p (answer_meaning f g a)
 

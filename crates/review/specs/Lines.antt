@@ -2,9 +2,11 @@
 use Rattle.std.specs.Prelude.{◌≡◌, ℕ, ◌-◌, ◌^◌, ◌<◌, ◌≤◌, cond, List, [], ◌∷◌, ◌++◌, length, drop, codes, min, Ok, Err, Result, nat_lt}
 use Rattle.std.specs.Fmt.{decimal}
 use Rattle.std.specs.List.{flat_map}
+use Rattle.locks.specs.declared.together.Side.TheVariants.{Left, Right}
+use Rattle.locks.specs.Moves.{number_of}
 use Rattle.search.specs.declared.threads.Pair.{Pair}
 use Rattle.review.specs.declared.file.fault.Within.{Within}
-use Rattle.review.specs.declared.file.fault.Within.TheVariants as where_
+use Rattle.review.specs.FileFaults.{within_name}
 use Rattle.review.specs.declared.lines.fault.LineFault.{LineFault}
 use Rattle.review.specs.declared.lines.line.Line.{Line}
 use Rattle.review.specs.declared.lines.line.Line.TheVariants.{Reached, Never, Missing, Refused}
@@ -21,14 +23,15 @@ pair_text p = ((decimal p.left ++ codes " ") ++ decimal p.right) ++ codes " "
 abbrev pub move_text : ℕ → List ℕ
 move_text m = cond (nat_lt m 256) (codes " L" ++ decimal m) (codes " R" ++ decimal (m - 256))
 
+-- a move of the left thread is told as L and its choice, one of the right as R and its choice
+abbrev pub MovesAreTold : Type 0
+MovesAreTold =
+    (choice : ℕ) → choice < 256
+    → (move_text (number_of Left choice) ≡ codes " L" ++ decimal choice)
+    × (move_text (number_of Right choice) ≡ codes " R" ++ decimal choice)
+
 abbrev pub moves_text : List ℕ → List ℕ
 moves_text ms = flat_map move_text ms
-
-abbrev pub within_name : Within → List ℕ
-within_name where_.Left = codes "left"
-within_name where_.Right = codes "right"
-within_name where_.Names = codes "names"
-within_name where_.File = codes "file"
 
 abbrev pub reached_text : Pair → List ℕ → List ℕ
 reached_text p ms = (((pair_text p ++ codes "reached ") ++ decimal (length ms)) ++ codes ":") ++ moves_text ms

@@ -31,7 +31,7 @@ right_graph m = renamed_graph m.numbers (listing_graph m.rights)
 abbrev pub refusal_line : Refusal → Within → List ℕ
 refusal_line r w = refused_text r.number r.place w ++ newline
 
--- the line of a pair: a location is none, or no schedule leads to it, or it is reached, with a shortest one
+-- the line of a pair: a location is not in its graph, or no schedule leads to it, or it is reached, with a shortest one
 abbrev pub PairLine : Graph → Graph → Pair → List ℕ → Type 0
 PairLine G H p line =
     ((s : Side) × Missing G H p.left p.right s × (line ≡ missing_text p ++ newline))
@@ -57,5 +57,6 @@ abbrev pub ReportOf : Result Meaning FileFault → List ℕ → Type 0
 ReportOf (Ok m) text = Judged (left_graph m) (right_graph m) m.pairs text
 ReportOf (Err f) text = text ≡ refusal_line (file_refusal f) (within f)
 
+-- the text is the report of the file
 abbrev pub Reports : List ℕ → List ℕ → Type 0
 Reports file text = (q : Result Meaning FileFault) × FileSays file q × ReportOf q text

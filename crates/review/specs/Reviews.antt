@@ -106,17 +106,12 @@ pub record FileRead (bs : List ℕ) (r : Result Review FileFault) : Type 0 where
   pub says : FileSays bs (meaning_in r)
   pub only : (q : Result Meaning FileFault) → FileSays bs q → q ≡ meaning_in r
 
--- what a renaming says, and what there is without one
-abbrev pub numbers_of : List (List ℕ) → List ℕ
-numbers_of [] = in_order
-numbers_of (given ∷ more) = given
-
--- a command after the other, with well-formed sections, in order: bytes that say just that
+-- a file that is written from its parts, with well-formed sections, says just these parts
 abbrev pub FilesReadBack : Type 0
 FilesReadBack =
-    (l r : List ℕ) (renamings : List (List ℕ)) (pairs : List Pair) (lefts rights : List listed.Command) (q : Result Meaning FileFault)
+    (l r : List ℕ) (renamings : List (List ℕ)) (pairs : List Pair) (lefts rights : List listed.Command) (ns : List ℕ) (q : Result Meaning FileFault)
     → length (encode (file_commands l r renamings pairs)) ≤ most_bytes
     → AllByRecursion Sized (file_commands l r renamings pairs)
-    → listing l ≡ Ok lefts → listing r ≡ Ok rights → NumbersFrom renamings (numbers_of renamings)
+    → listing l ≡ Ok lefts → listing r ≡ Ok rights → NumbersFrom renamings ns
     → FileSays (encode (file_commands l r renamings pairs)) q
-    → q ≡ Ok (record { lefts = lefts; rights = rights; numbers = numbers_of renamings; pairs = pairs })
+    → q ≡ Ok (record { lefts = lefts; rights = rights; numbers = ns; pairs = pairs })

@@ -12,7 +12,7 @@ command_of (code.Rename numbers place) = rename numbers.now
 command_of (code.Pair a b) = pair a b
 command_of code.End = end
 
--- the section begins at this offset
+-- the section begins at this offset; PAIR and END have none
 abbrev pub Begins : Section → ℕ → Type 0
 Begins (code.Left bytes place) n = place ≡ n
 Begins (code.Right bytes place) n = place ≡ n

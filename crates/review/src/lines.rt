@@ -6,5 +6,5 @@ mod putting;
 mod writing;
 
 pub use fault::LineFault;
-pub use laws::digits_are_their_numbers;
+pub use laws::{digits_are_their_numbers, moves_are_told};
 pub use line::Line;

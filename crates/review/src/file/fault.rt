@@ -1,5 +1,5 @@
 ghost use Rattle.std.specs.Prelude.{◌≡◌};
-ghost use Rattle.review.specs.FileFaults.{file_refusal, of_file, within};
+ghost use Rattle.review.specs.FileFaults.{file_refusal, of_file, within, within_name};
 
 use crate::file::MOST_BYTES;
 use layers::names::NamesFault;
@@ -26,6 +26,19 @@ pub enum Within {
     Right,
     Names,
     File,
+}
+
+impl Within {
+    pub fn name(self) -> &'static str
+        ensures { result.now ≡ within_name self }
+    {
+        match self {
+            Within::Left => "left",
+            Within::Right => "right",
+            Within::Names => "names",
+            Within::File => "file",
+        }
+    }
 }
 
 impl FileFault {

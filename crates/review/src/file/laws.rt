@@ -1,7 +1,18 @@
 // What reading a file means, apart from how it is done.
+ghost use Rattle.review.specs.Commands.{SectionsStandBehindHeaders, WorkedFileIsItsBytes};
 ghost use Rattle.review.specs.Reviews.{FilesReadBack};
 
 // A file that is written from its parts is read as these, and as nothing else.
 pub fn files_read_back()
     ensures { FilesReadBack }
+{}
+
+// The place of a section is where its bytes begin.
+pub fn sections_stand_behind_headers()
+    ensures { SectionsStandBehindHeaders }
+{}
+
+// The bytes of a file with each command, worked out by hand.
+pub fn worked_file_is_its_bytes()
+    ensures { WorkedFileIsItsBytes }
 {}

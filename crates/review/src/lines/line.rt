@@ -12,7 +12,7 @@ pub enum Line<'m> {
     Never {
         pair: Pair,
     },
-    // A location of the pair is none.
+    // A location of the pair is not in its graph.
     Missing {
         pair: Pair,
     },

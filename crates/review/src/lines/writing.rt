@@ -1,23 +1,10 @@
 ghost use Rattle.std.specs.Prelude.{◌≡◌, length};
-ghost use Rattle.review.specs.Lines.{pair_text, reached_text, refused_text, line_text, within_name, counted, Filled, LineWritten};
+ghost use Rattle.review.specs.Lines.{pair_text, reached_text, refused_text, line_text, counted, Filled, LineWritten};
 
 use crate::file::Within;
 use crate::lines::putting::{put, put_moves, put_number};
 use crate::lines::{Line, LineFault};
 use search::threads::Pair;
-
-impl Within {
-    pub fn name(self) -> &'static str
-        ensures { result.now ≡ within_name self }
-    {
-        match self {
-            Within::Left => "left",
-            Within::Right => "right",
-            Within::Names => "names",
-            Within::File => "file",
-        }
-    }
-}
 
 impl Line<'_> {
     // Into the front of the space, with its newline; answers how many bytes it took. The rest of the space stays, and
