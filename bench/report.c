@@ -4,6 +4,7 @@
    report time ROUNDS FILE PROGRAM WORDS..: the least time in ns that the program takes for the file. */
 #define _POSIX_C_SOURCE 200809L
 #include "../compare/threads.h"
+#include "../compare/writing.h"
 
 #include <fcntl.h>
 #include <stdio.h>
@@ -13,21 +14,7 @@
 #include <time.h>
 #include <unistd.h>
 
-struct run { int size, commands; uint8_t bytes[MOST_BYTES + 8]; };
-
 static struct run left, right, file;
-
-static void put(struct run *run, int byte) { run->bytes[run->size++] = (uint8_t)byte; }
-static void put2(struct run *run, int number) { put(run, number >> 8); put(run, number & 255); }
-
-static void command(struct run *l, int byte) { put(l, byte); l->commands++; }
-static void empty(struct run *l) { l->size = l->commands = 0; }
-static void stop(struct run *l) { command(l, 0); }
-static void pass(struct run *l, int n) { while (n-- > 0) command(l, 1); }
-static void take(struct run *l, int k) { command(l, 2); put(l, k); }
-static void give(struct run *l, int k) { command(l, 3); put(l, k); }
-static void go_to(struct run *l, int t) { command(l, 4); put2(l, t); }
-static void either(struct run *l, int t, int u) { command(l, 5); put2(l, t); put2(l, u); }
 
 /* locks that may each be taken and given back, or not: twice as many histories with each */
 static void perhaps(struct run *l, const char *locks)

@@ -1,5 +1,6 @@
 /* generate SEED COUNT FOLDER: writes review files to compare with, COUNT of them at random and the others always. */
 #include "threads.h"
+#include "writing.h"
 
 #include <stdio.h>
 #include <stdlib.h>
@@ -18,13 +19,6 @@ static uint32_t random_bits(void)
 static int below(int n) { return (int)(random_bits() % (uint32_t)n); }
 static int between(int least, int most) { return least + below(most - least + 1); }
 static int chance(int percent) { return below(100) < percent; }
-
-/* A run of bytes that is being written */
-
-struct run { int size; uint8_t bytes[140000]; };
-
-static void put(struct run *run, int byte) { run->bytes[run->size++] = (uint8_t)byte; }
-static void put2(struct run *run, int number) { put(run, number >> 8); put(run, number & 255); }
 
 static void put_run(struct run *run, const struct run *more)
 {
@@ -49,13 +43,6 @@ static void save(const struct run *run, const char *kind)
 /* Listings */
 
 static struct run left, right, file, other;
-
-static void stop(struct run *l) { put(l, 0); }
-static void pass(struct run *l, int n) { while (n-- > 0) put(l, 1); }
-static void take(struct run *l, int k) { put(l, 2); put(l, k); }
-static void give(struct run *l, int k) { put(l, 3); put(l, k); }
-static void go_to(struct run *l, int t) { put(l, 4); put2(l, t); }
-static void either(struct run *l, int t, int u) { put(l, 5); put2(l, t); put2(l, u); }
 
 /* the locks held are four bits each, the last taken lowest; target -1: not yet chosen */
 struct command { int byte, lock, t, u; uint64_t held; };
@@ -135,7 +122,7 @@ static void random_listing(struct run *l, int count, struct style style)
             }
         }
     }
-    l->size = 0;
+    empty(l);
     for (int i = 0; i < count; i++) {
         struct command *c = &commands[i];
         int t = c->t < 0 || chance(style.wild) ? target(count, c->held, style.wild) : c->t;
@@ -180,7 +167,7 @@ static int is_refused(const struct run *l)
 
 static void put_threads(void)
 {
-    file.size = 0;
+    empty(&file);
     put(&file, 0x10); put2(&file, left.size); put_run(&file, &left);
     put(&file, 0x11); put2(&file, right.size); put_run(&file, &right);
 }
@@ -292,7 +279,7 @@ static void larger(int most)
 static void crowded_listing(struct run *l, int lock_count, int items)
 {
     int kept[MOST_HELD], depth = 0, n = 0;
-    l->size = 0;
+    empty(l);
     for (int i = 0; i < items; i++) {
         int k = below(lock_count), roll = below(100), free = 1;
         for (int d = 0; d < depth; d++)
@@ -396,12 +383,12 @@ static void around(void)
     file = other;
 }
 
-static void listing_a(struct run *l) { l->size = 0; take(l, 0); take(l, 1); give(l, 1); stop(l); }
-static void listing_b(struct run *l) { l->size = 0; take(l, 1); take(l, 0); give(l, 0); stop(l); }
+static void listing_a(struct run *l) { empty(l); take(l, 0); take(l, 1); give(l, 1); stop(l); }
+static void listing_b(struct run *l) { empty(l); take(l, 1); take(l, 0); give(l, 0); stop(l); }
 
 static void listing_c(struct run *l)
 {
-    l->size = 0;
+    empty(l);
     take(l, 0); either(l, 2, 5); take(l, 1); give(l, 1); go_to(l, 5); stop(l);
 }
 
@@ -460,7 +447,7 @@ static int four_histories(int before, int tail, int fault)
 {
     static struct thread thread;
     int count = 0;
-    left.size = 0;
+    empty(&left);
     take(&left, 0);
     pass(&left, before);
     for (int lock = 1; lock <= 2; lock++) {
@@ -497,14 +484,14 @@ static void bounds(void)
         {6, 5, 0, 0, 0, 1, 0}, {6, 5, 0, 2, 0, 0, 0}, {4, 4, 0, 9, 1}, {5, 4, 0, 9, 2, 9}, {5, 4, 0, 9, 4, 0},
         {4, 4, 0, 0, 1}, {4, 4, 2, 0, 0}, {4, 3, 0, 3, 0}, {6, 2, 0, 2, 0, 3, 8}, {7, 2, 0, 2, 1, 3, 0, 0}};
     for (size_t i = 0; i < sizeof kinds / sizeof *kinds; i++) {
-        left.size = 0;
+        empty(&left);
         for (int k = 1; k <= kinds[i][0]; k++)
             put(&left, kinds[i][k]);
         both_sides();
     }
     for (int n = 511; n <= 514; n++)
         for (int i = 0; i < 5; i++) { /* so many commands, the last of several kinds */
-            left.size = 0;
+            empty(&left);
             if (i == 3)
                 for (int k = 0; k < n; k++)
                     either(&left, k / 2, n - 1);
@@ -518,7 +505,7 @@ static void bounds(void)
         }
     for (int n = 1; n <= 6; n++) /* so many locks, one within another, given back in order or not */
         for (int order = 0; order < 3; order++) {
-            left.size = 0;
+            empty(&left);
             for (int k = 0; k < n; k++)
                 take(&left, order == 1 ? 7 - k : k);
             for (int k = 0; k < n; k++)
@@ -527,7 +514,7 @@ static void bounds(void)
             both_sides();
         }
     /* both faults of the locks: the first kind goes before the second, wherever it is */
-    left.size = 0;
+    empty(&left);
     either(&left, 1, 6);
     for (int k = 0; k < 5; k++)
         take(&left, k);
@@ -544,14 +531,14 @@ static void bounds(void)
         }
     /* more states than there may be, and before them a fault of each kind */
     for (int fault = 0; fault < 2; fault++) {
-        left.size = 0;
+        empty(&left);
         either(&left, fault ? 4 : 6, 11);
         pass(&left, 3);
         take(&left, 0); give(&left, 0);
         for (int k = 0; k < 5; k++)
             take(&left, k);
         if (!fault) {
-            left.size = 0;
+            empty(&left);
             either(&left, 1, 11);
             take(&left, 0); take(&left, 1); give(&left, 0); stop(&left);
             pass(&left, 5); stop(&left);
@@ -610,7 +597,7 @@ static void sizes(void)
         save(&file, "sized");
     }
     for (int n = 0; n < 2; n++) { /* a section of 0 bytes, and one of 65,535 */
-        file.size = 0;
+        empty(&file);
         put(&file, 0x10); put2(&file, n ? 65535 : 0);
         save(&file, "sized");
         put(&file, 0x11);
@@ -623,7 +610,7 @@ static void sizes(void)
 /* A long way walked twice, the second time with a lock more; then so many locations. The answer is their first. */
 static int long_way(struct run *l, int way, int behind, int lock)
 {
-    l->size = 0;
+    empty(l);
     pass(l, way);
     either(l, way + 1, way + 3);
     take(l, lock); go_to(l, 0);
