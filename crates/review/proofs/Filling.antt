@@ -14,13 +14,13 @@ nothing before = record { long = refl; end = refl; fits = λ h. refl }
 pub joined : (before after text a b : List ℕ) (at : ℕ) → Filled before ((text ++ a) ++ b) after at → Filled before (text ++ (a ++ b)) after at
 joined before after text a b at f = subst (λ xs. Filled before xs after at) (append_assoc text a b) f
 
-pub moved_left : (before text after : List ℕ) (at m : ℕ) → m < 256 → Filled before ((text ++ codes " L") ++ decimal m) after at → Filled before (text ++ move_text m) after at
+pub moved_left : (before text after : List ℕ) (at m : ℕ) → m < 256 → Filled before (text ++ (codes " L" ++ decimal m)) after at → Filled before (text ++ move_text m) after at
 moved_left before text after at m h f =
-    subst (λ xs. Filled before (text ++ xs) after at) (sym (cond-true (ltb m 256) (codes " L" ++ decimal m) (codes " R" ++ decimal (m - 256)) (lt-ltb m 256 h))) (joined before after text (codes " L") (decimal m) at f)
+    subst (λ xs. Filled before (text ++ xs) after at) (sym (cond-true (ltb m 256) (codes " L" ++ decimal m) (codes " R" ++ decimal (m - 256)) (lt-ltb m 256 h))) f
 
-pub moved_right : (before text after : List ℕ) (at m : ℕ) → 256 ≤ m → Filled before ((text ++ codes " R") ++ decimal (m - 256)) after at → Filled before (text ++ move_text m) after at
+pub moved_right : (before text after : List ℕ) (at m : ℕ) → 256 ≤ m → Filled before (text ++ (codes " R" ++ decimal (m - 256))) after at → Filled before (text ++ move_text m) after at
 moved_right before text after at m h f =
-    subst (λ xs. Filled before (text ++ xs) after at) (sym (cond-false (ltb m 256) (codes " L" ++ decimal m) (codes " R" ++ decimal (m - 256)) (le-ltb m 256 h))) (joined before after text (codes " R") (decimal (m - 256)) at f)
+    subst (λ xs. Filled before (text ++ xs) after at) (sym (cond-false (ltb m 256) (codes " L" ++ decimal m) (codes " R" ++ decimal (m - 256)) (le-ltb m 256 h))) f
 
 pub moves_more : (before text after : List ℕ) (at : ℕ) (ms : List ℕ) (i d : ℕ) → i < length ms → Filled before ((text ++ moves_text (take i ms)) ++ move_text (get_or ms i d)) after at → Filled before (text ++ moves_text (take (i + 1) ms)) after at
 moves_more before text after at ms i d h f =

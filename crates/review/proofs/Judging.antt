@@ -34,7 +34,9 @@ use Rattle.review.specs.declared.file.fault.Within.TheVariants as where_
 use Rattle.review.specs.declared.lines.line.Line.{Line}
 use Rattle.review.specs.Judging.{Told, question_of, asks_of, review_calls, told, LinesTell, Refuses, lines_text}
 use Rattle.review.specs.Lines.{line_text}
+use Rattle.review.specs.Picking.{Picks}
 use Rattle.review.specs.Reports.{refusal_line, PairLine, Judged}
+use Rattle.review.proofs.Picking.{as_many_picked, picked_at}
 
 -- asks leave the folders as they are
 
@@ -238,9 +240,12 @@ module _ {A B : Type 0} (f : A → Graph) (g : B → Graph) (a : A) (b : B) (cs 
 
 -- the lines of a run
 
-some_at : {A B : Type 0} (f : A → Graph) (g : B → Graph) (o : Option (Answer A B)) (z : AnswerMeaning) → option_map (means f g) o ≡ Some z → (x : Answer A B) × (o ≡ Some x) × (z ≡ means f g x)
-some_at f g (Some x) z h = (x, refl, let same : z ≡ means f g x = cc in same)
-some_at f g None z h = cc
+some_injective : {X : Type 0} {x y : X} → Some x ≡ Some y → x ≡ y
+some_injective e = cc
+
+of_some : {X Y : Type 0} (f : X → Y) (o : Option X) (y : Y) → option_map f o ≡ Some y → (x : X) × (o ≡ Some x) × (y ≡ f x)
+of_some f (Some x) y h = (x, refl, let same : y ≡ f x = cc in same)
+of_some f None y h = cc
 
 module _ {A B : Type 0} (f : A → Graph) (g : B → Graph) (a : A) (b : B) (cs : List (Call A B)) (ran : Outcome A B) (right : RunRight f g a b cs ran) (ps : List Pair) (script : map (call_meaning f g) cs ≡ review_calls ps longest) where
   abbrev behind : List (Answer A B)
@@ -249,33 +254,44 @@ module _ {A B : Type 0} (f : A → Graph) (g : B → Graph) (a : A) (b : B) (cs 
   each_line : (ls : List Line) → Accepted (f a) → Accepted (g b) → LinesTell ps (map (means f g) behind) ls → (i : ℕ) (p : Pair) (line : List ℕ) → slice_get ps i ≡ Some p → slice_get (map line_text ls) i ≡ Some line → PairLine (f a) (g b) p line
   each_line ls one two tell i p line e h =
       let at = told_at ps (map (means f g) behind) ls i p line tell e h in
-      let x = some_at f g (slice_get behind i) at.0 (sym (slice_get-map (means f g) behind i) ∙ at.1) in
+      let x = of_some (means f g) (slice_get behind i) at.0 (sym (slice_get-map (means f g) behind i) ∙ at.1) in
       let asked_so = asked_of f g a b cs ran right ps longest script i p x.0 e (sym (behind_two (vec_items ran.answers) i) ∙ x.1) in
       let line_is : line ≡ told p (asked (numbered ask_refusal asked_so.0) asked_so.1) = at.2 ∙ ap (told p) (x.2 ∙ asked_so.2) in
       subst (PairLine (f a) (g b) p) (sym line_is) (pair_line (f a) (g b) ps i p asked_so.0 asked_so.1 one two asked_so.3)
 
-  judged : (ls : List Line) (text : List ℕ) → Refuses (vec_items ran.answers) 0 None → Refuses (vec_items ran.answers) 1 None → LinesTell ps (map (means f g) behind) ls → text ≡ lines_text ls → Judged (f a) (g b) ps text
-  judged ls text first second tell is =
-      let one = accepted_left f g a b cs ran right ps longest script first in
-      let two = accepted_right f g a b cs ran right ps longest script second in
-      inr (inr (
-        one,
-        two,
-        record {
-          lines = map line_text ls;
-          whole = is ∙ in_lines ls;
-          as_many = length-map ls line_text ∙ as_many_lines ps (map (means f g) behind) ls tell;
-          each = each_line ls one two tell;
-        },
-      ))
+  module _ (pairs : List Pair) (ns : List ℕ) (places : Picks ps ns pairs) where
+    -- the line of a pair is the one of its ask
+    picked_line : (ls picked : List Line) → Accepted (f a) → Accepted (g b) → LinesTell ps (map (means f g) behind) ls → Picks ls ns picked → (i : ℕ) (p : Pair) (line : List ℕ) → slice_get pairs i ≡ Some p → slice_get (map line_text picked) i ≡ Some line → PairLine (f a) (g b) p line
+    picked_line ls picked one two tell picks i p line e h =
+        let asked_at = picked_at ps ns pairs i p places e in
+        let l = of_some line_text (slice_get picked i) line (sym (slice_get-map line_text picked i) ∙ h) in
+        let told_there = picked_at ls ns picked i l.0 picks l.1 in
+        let same : told_there.0 ≡ asked_at.0 = some_injective (sym told_there.1 ∙ asked_at.1) in
+        let text = slice_get-map line_text ls asked_at.0 ∙ ap (option_map line_text) (subst (λ n. slice_get ls n ≡ Some l.0) same told_there.2) ∙ ap (λ x. Some x) (sym l.2) in
+        each_line ls one two tell asked_at.0 p line asked_at.2 text
 
-  -- what is told of a run's answers is what is to be judged of its graphs
-  pub told_judged : (text : List ℕ) → Told ps (vec_items ran.answers) text → Judged (f a) (g b) ps text
-  told_judged text (inl t) = let d = first_refused f g a b cs ran right ps longest script t.0 t.1 in inl (d.0, d.1, t.2 ∙ ap (λ x. refusal_line x where_.Left) d.2)
-  told_judged text (inr (inl t)) =
-      let d = second_refused f g a b cs ran right ps longest script t.1.0 t.1.1 in
-      inr (inl (d.0, accepted_left f g a b cs ran right ps longest script t.0, d.1, t.1.2 ∙ ap (λ x. refusal_line x where_.Right) d.2))
-  told_judged text (inr (inr t)) = judged t.2.0 text t.0 t.1 (t.2.1 f g) t.2.2
+    judged : (ls picked : List Line) (text : List ℕ) → Refuses (vec_items ran.answers) 0 None → Refuses (vec_items ran.answers) 1 None → LinesTell ps (map (means f g) behind) ls → Picks ls ns picked → text ≡ lines_text picked → Judged (f a) (g b) pairs text
+    judged ls picked text first second tell picks is =
+        let one = accepted_left f g a b cs ran right ps longest script first in
+        let two = accepted_right f g a b cs ran right ps longest script second in
+        inr (inr (
+          one,
+          two,
+          record {
+            lines = map line_text picked;
+            whole = is ∙ in_lines picked;
+            as_many = length-map picked line_text ∙ as_many_picked ls ns picked picks ∙ sym (as_many_picked ps ns pairs places);
+            each = picked_line ls picked one two tell picks;
+          },
+        ))
+
+    -- what is told of a run's answers is what is to be judged of its graphs
+    pub told_judged : (text : List ℕ) → Told ps ns (vec_items ran.answers) text → Judged (f a) (g b) pairs text
+    told_judged text (inl t) = let d = first_refused f g a b cs ran right ps longest script t.0 t.1 in inl (d.0, d.1, t.2 ∙ ap (λ x. refusal_line x where_.Left) d.2)
+    told_judged text (inr (inl t)) =
+        let d = second_refused f g a b cs ran right ps longest script t.1.0 t.1.1 in
+        inr (inl (d.0, accepted_left f g a b cs ran right ps longest script t.0, d.1, t.1.2 ∙ ap (λ x. refusal_line x where_.Right) d.2))
+    told_judged text (inr (inr t)) = judged t.2.0 t.2.1 text t.0 t.1 (t.2.2 f g) t.2.3 t.2.4
 
 -- a report of one line, and a report by the meaning of a review
 

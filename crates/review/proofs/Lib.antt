@@ -6,6 +6,7 @@ pub mod Fronts
 pub mod Judging
 pub mod Moves
 pub mod OneAnswer
+pub mod Picking
 pub mod Reading
 pub mod Scripts
 pub mod Telling

@@ -16,6 +16,7 @@ use Rattle.runs.specs.Scripts.{written}
 use Rattle.search.specs.declared.threads.Pair.{Pair}
 use Rattle.review.specs.declared.lines.line.Line.{Line}
 use Rattle.review.specs.declared.file.fault.Within.TheVariants as where_
+use Rattle.review.specs.Picking.{Picks}
 use Rattle.review.specs.Reports.{refusal_line}
 use Rattle.review.specs.Lines.{newline, reached_text, never_text, missing_text, line_text}
 
@@ -68,9 +69,10 @@ abbrev pub Refuses : {A B : Type 0} → List (Answer A B) → ℕ → Option Ref
 Refuses answers n (Some r) = (f : SummariseFault) × (slice_get answers n ≡ Some (back.Summarised (Err f))) × (r ≡ summarise_refusal f)
 Refuses answers n None = (f : SummariseFault) → slice_get answers n ≡ Some (back.Summarised (Err f)) → ⊥
 
--- what is printed of the answers: the refusal of a summary, the left one first, or a line for each pair
-abbrev pub Told : {A B : Type 0} → List Pair → List (Answer A B) → List ℕ → Type 0
-Told {A} {B} pairs answers text =
+-- what is printed of the answers about these pairs: the refusal of a summary, the left one first, or the lines at the
+-- places
+abbrev pub Told : {A B : Type 0} → List Pair → List ℕ → List (Answer A B) → List ℕ → Type 0
+Told {A} {B} pairs places answers text =
     ((r : Refusal) × Refuses answers 0 (Some r) × (text ≡ refusal_line r where_.Left))
     ⊎ ((Refuses answers 0 None × ((r : Refusal) × Refuses answers 1 (Some r) × (text ≡ refusal_line r where_.Right)))
-    ⊎ (Refuses answers 0 None × Refuses answers 1 None × ((lines : List Line) × AllTell pairs (drop 2 answers) lines × (text ≡ lines_text lines))))
+    ⊎ (Refuses answers 0 None × Refuses answers 1 None × ((lines : List Line) × (picked : List Line) × AllTell pairs (drop 2 answers) lines × Picks lines places picked × (text ≡ lines_text picked))))

@@ -8,6 +8,7 @@ pub mod Limits
 pub mod LineFaults
 pub mod Lines
 pub mod Order
+pub mod Picking
 pub mod Readers
 pub mod Reports
 pub mod Reviews

@@ -1,4 +1,5 @@
 // The report of a review file: what is printed of it.
+mod asks;
 mod judging;
 mod making;
 mod printing;

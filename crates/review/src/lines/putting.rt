@@ -1,5 +1,5 @@
 // Puts texts one behind another into lent space, as long as they fit, and counts their bytes in any case.
-ghost use Rattle.std.specs.Prelude.{◌++◌, ℕ, List};
+ghost use Rattle.std.specs.Prelude.{◌∷◌, ◌++◌, ℕ, List};
 ghost use Rattle.std.specs.Fmt.{decimal};
 ghost use Rattle.review.specs.Lines.{move_text, moves_text, Filled};
 
@@ -29,11 +29,21 @@ fn put_move(space: &mut [u8], at: usize, number: u16) -> usize
     ensures { (before text : List ℕ) → Filled before text space.old at → Filled before (text ++ move_text number) space.new result }
 {
     if number < RIGHT {
-        let end = put(space, at, b" L");
-        put_number(space, end, u64::from(number))
+        put_choice(space, at, b'L', number)
     } else {
-        let end = put(space, at, b" R");
-        put_number(space, end, u64::from(number - RIGHT))
+        put_choice(space, at, b'R', number - RIGHT)
+    }
+}
+
+// A space, a letter and a number. Choices of one digit are by far the most, and so have a way of their own.
+fn put_choice(space: &mut [u8], at: usize, letter: u8, choice: u16) -> usize
+    ensures { (before text : List ℕ) → Filled before text space.old at → Filled before (text ++ (32 ∷ letter ∷ decimal choice)) space.new result }
+{
+    if choice < 10 {
+        put(space, at, &[b' ', letter, b'0' + choice as u8])
+    } else {
+        let end = put(space, at, &[b' ', letter]);
+        put_number(space, end, u64::from(choice))
     }
 }
 

@@ -1,6 +1,8 @@
 // Which calls a review makes, and what their answers say of its pairs.
-ghost use Rattle.std.specs.Prelude.{◌≡◌, IfOk, length, vec_items};
+ghost use Rattle.std.specs.Prelude.{◌≡◌, ◌<◌, IfOk, length, vec_items};
+ghost use Rattle.std.specs.List.{All};
 ghost use Rattle.review.specs.Judging.{question_of, ScriptSays, Tells, AllTell};
+ghost use Rattle.review.specs.Picking.{Picks};
 
 use crate::lines::Line;
 use layers::renamed::Renamed;
@@ -54,13 +56,30 @@ pub(crate) fn lines<'a>(
     answers: &'a [Answer<Listing, Right>],
 ) -> Result<Vec<Line<'a>>, AllocError>
     requires { length pairs.now ≡ length answers.now }
-    ensures { IfOk result (λ lines. AllTell pairs.now answers.now (vec_items lines)) }
+    ensures tell { IfOk result (λ lines. AllTell pairs.now answers.now (vec_items lines)) }
+    ensures len { IfOk result (λ lines. length (vec_items lines) ≡ length pairs.now) }
 {
     let mut lines = Vec::with_capacity(heap, pairs.len())?;
     for (place, pair) in pairs.iter().enumerate() {
         lines.push_reserved(line_of(*pair, &answers[place]));
     }
     Ok(lines)
+}
+
+// The lines at these places.
+pub(crate) fn picked<'a>(
+    heap: Global,
+    lines: &[Line<'a>],
+    places: &[usize],
+) -> Result<Vec<Line<'a>>, AllocError>
+    requires { All (λ n. n < length lines.now) places.now }
+    ensures { IfOk result (λ picked. Picks lines.now places.now (vec_items picked)) }
+{
+    let mut picked = Vec::with_capacity(heap, places.len())?;
+    for place in places {
+        picked.push_reserved(lines[*place]);
+    }
+    Ok(picked)
 }
 
 fn line_of<'a>(pair: Pair, answer: &'a Answer<Listing, Right>) -> Line<'a>

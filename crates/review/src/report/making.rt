@@ -1,4 +1,5 @@
-ghost use Rattle.std.specs.Prelude.{◌≡◌, ◌+◌, length, IfOk};
+ghost use Rattle.std.specs.Prelude.{◌≡◌, ◌+◌, ◌<◌, length, IfOk};
+ghost use Rattle.std.specs.List.{All};
 ghost use Rattle.review.specs.Judging.{Refuses, Told};
 ghost use Rattle.review.specs.Lines.{line_text};
 ghost use Rattle.review.specs.Reports.{left_graph, right_graph, refusal_line, Judged, Reports};
@@ -6,15 +7,16 @@ ghost use Rattle.review.specs.Reviews.{review_of};
 
 use crate::file::{Review, Within};
 use crate::lines::Line;
-use crate::report::judging::{Right, lines, script};
+use crate::report::asks::Asks;
+use crate::report::judging::{Right, lines, picked, script};
 use crate::report::printing::print;
+use graph::ThreadGraph;
 use locks::refusals::Refusal;
 use pairs::asking::most_moves;
 use readers::listing::Listing;
 use runs::calls::Answer;
 use runs::running::run;
 use search::folders::Room;
-use search::threads::Pair;
 use std::alloc::{AllocError, Global};
 
 // What is printed of a file: a line for each pair, or the one refusal.
@@ -31,19 +33,21 @@ fn judge(heap: Global, review: Review) -> Result<Vec<u8>, AllocError>
     ensures { IfOk result (λ text. Judged (left_graph (review_of review)) (right_graph (review_of review)) (review_of review).pairs text.items) }
 {
     let (left, right, pairs) = review.into_parts();
-    let script = script(heap, &pairs, most_moves())?;
+    let asks = Asks::of(heap, &pairs, left.locations(), right.locations())?;
+    let script = script(heap, &asks.pairs, most_moves())?;
     let ran = run(Room::new(heap)?, Room::new(heap)?, left, right, script);
-    tell(heap, &pairs, &ran.answers)
+    tell(heap, &asks, &ran.answers)
 }
 
 // The refusal of a summary, the left one first, or what became of each pair.
 fn tell(
     heap: Global,
-    pairs: &[Pair],
+    asks: &Asks,
     answers: &[Answer<Listing, Right>],
 ) -> Result<Vec<u8>, AllocError>
-    requires { length answers.now ≡ length pairs.now + 2 }
-    ensures { IfOk result (λ text. Told pairs.now answers.now text.items) }
+    requires as_many { length answers.now ≡ length asks.now.pairs.items + 2 }
+    requires within { All (λ n. n < length asks.now.pairs.items) asks.now.places.items }
+    ensures { IfOk result (λ text. Told asks.now.pairs.items asks.now.places.items answers.now text.items) }
 {
     if let Some(refusal) = refusal(answers, 0) {
         return print(heap, &[refused(refusal, Within::Left)]);
@@ -51,8 +55,8 @@ fn tell(
     if let Some(refusal) = refusal(answers, 1) {
         return print(heap, &[refused(refusal, Within::Right)]);
     }
-    let lines = lines(heap, pairs, &answers[2..])?;
-    print(heap, &lines)
+    let lines = lines(heap, &asks.pairs, &answers[2..])?;
+    print(heap, &picked(heap, &lines, &asks.places)?)
 }
 
 fn refused(refusal: Refusal, within: Within) -> Line<'static>

@@ -26,5 +26,13 @@ loop-place-preserved c =
 pub returns : goal.returns
 returns c =
     let past = c.loop-place-test.false in
-    subst (λ ps. AllTell ps c.args.answers.now (vec_items c.loop-place.lines)) (take_all c.loop-place.place c.args.pairs.now past)
-    (subst (λ zs. AllTell (take c.loop-place.place c.args.pairs.now) zs (vec_items c.loop-place.lines)) (take_all c.loop-place.place c.args.answers.now (omega (arith, c.requires))) c.loop-place.invariant.tell)
+    let pairs = c.args.pairs.now in
+    let answers = c.args.answers.now in
+    let place = c.loop-place.place in
+    let lines = vec_items c.loop-place.lines in
+    record {
+      tell =
+          subst (λ ps. AllTell ps answers lines) (take_all place pairs past)
+          (subst (λ zs. AllTell (take place pairs) zs lines) (take_all place answers (omega (arith, c.requires))) c.loop-place.invariant.tell);
+      len = let many = c.loop-place.invariant.many in let within = c.loop-place.auto in omega arith;
+    }
