@@ -1,18 +1,22 @@
 -- No schedule that is written into a run of bytes has too many moves to be told.
-use Rattle.std.proofs.Common.{◌≡◌, ℕ, ◌^◌, ◌<◌, List, length, Ok, Err, Result, inl, inr, arith}
+use Rattle.std.proofs.Common.{◌≡◌, ℕ, ◌^◌, ◌<◌, ◌≤◌, List, length, Ok, Err, Result, inl, inr, arith}
 use Rattle.locks.specs.declared.refusals.Refusal.{Refusal}
 use Rattle.locks.specs.Graphs.{Graph}
+use Rattle.pairs.specs.Answers.{longest}
 use Rattle.pairs.specs.declared.answers.Verdict.{Verdict}
 use Rattle.pairs.specs.declared.answers.Verdict.TheVariants.{Never, Reached}
 use Rattle.search.specs.declared.threads.Pair.{Pair}
-use Rattle.review.specs.Entries.{ListingsSay, GraphsSay, AskSays}
+use Rattle.review.specs.SinglePair.{ListingsSay, GraphsSay, PairSays, MovesSay}
 use Rattle.c_entry.specs.CNumbers.{FewMoves}
 
-by_ask : (G H : Graph) (p : Pair) (before after : List ℕ) (n : ℕ) → length before < 2 ^ 64 → AskSays G H p before (Ok (Reached n)) after → n < 2 ^ 63
+by_moves : (moves before after : List ℕ) (n : ℕ) → length moves ≤ longest → MovesSay moves before (Ok (Reached n)) after → n < 2 ^ 63
+by_moves moves before after n few (inl t) = let no = t.1 in cc
+by_moves moves before after n few (inr t) = let is : n ≡ length moves = (let same = t.1 in cc) in omega arith
+
+by_ask : (G H : Graph) (p : Pair) (before after : List ℕ) (n : ℕ) → length before < 2 ^ 64 → PairSays G H p before (Ok (Reached n)) after → n < 2 ^ 63
 by_ask G H p before after n h (inl t) = let no = t.2 in cc
 by_ask G H p before after n h (inr (inl t)) = let no = t.2 in cc
-by_ask G H p before after n h (inr (inr (inl t))) = let no = t.4 in cc
-by_ask G H p before after n h (inr (inr (inr t))) = let is : n ≡ length t.0 = (let same = t.5 in cc) in let low = t.4 in omega arith
+by_ask G H p before after n h (inr (inr t)) = by_moves t.0 before after n t.4 t.5
 
 by_graphs : (G H : Graph) (p : Pair) (before after : List ℕ) (n : ℕ) → length before < 2 ^ 64 → GraphsSay G H p before (Ok (Reached n)) after → n < 2 ^ 63
 by_graphs G H p before after n h (inl t) = let no = t.2 in cc

@@ -3,7 +3,7 @@ use Rattle.std.specs.Prelude.{◌≡◌, ℕ, ◌+◌, ◌-◌, ◌^◌, ◌<◌
 use Rattle.locks.specs.declared.refusals.Refusal.{Refusal}
 use Rattle.pairs.specs.declared.answers.Verdict.{Verdict}
 use Rattle.pairs.specs.declared.answers.Verdict.TheVariants.{Never, Reached}
-use Rattle.review.specs.Entries.{ListingsSay}
+use Rattle.review.specs.SinglePair.{ListingsSay}
 
 -- the count of moves, −1 for never, or −(100 + number) for a refusal; negsuc n is −(n + 1)
 abbrev pub c_number : Result Verdict Refusal → ℤ
@@ -21,7 +21,6 @@ FewMoves (Err r) = Unit {0}
 abbrev pub no_memory : ℤ
 no_memory = negsuc (2 ^ 63 - 1)
 
--- the number of what is to be said of the listings and the run of bytes after it, or that memory is wanting
 -- what is to be said of the listings, as a number, or the number for want of memory with the run as it was
 abbrev pub CAnswers : List ℕ → List ℕ → ℕ → ℕ → List ℕ → ℤ → List ℕ → Type 0
 CAnswers l r a b before n after =

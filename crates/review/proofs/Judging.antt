@@ -30,12 +30,13 @@ use Rattle.search.specs.Faults.{summarise_refusal}
 use Rattle.search.specs.Summarising.{Accepted, Refused, Summarised}
 use Rattle.search.proofs.SummaryLaws.{accepted_not_refused}
 use Rattle.review.specs.declared.file.fault.Within.{Within}
-use Rattle.review.specs.declared.file.fault.Within.TheVariants as where_
 use Rattle.review.specs.declared.lines.line.Line.{Line}
-use Rattle.review.specs.Judging.{Told, question_of, asks_of, review_calls, told, LinesTell, Refuses, lines_text}
+use Rattle.review.specs.Asking.{question_of, asks_of, review_calls, Refuses, ByAnswers}
+use Rattle.review.specs.Cases.{BySummaries}
+use Rattle.review.specs.Telling.{Told, told, LinesTell, lines_text}
 use Rattle.review.specs.Lines.{line_text}
 use Rattle.review.specs.Picking.{Picks}
-use Rattle.review.specs.Reports.{refusal_line, PairLine, Judged}
+use Rattle.review.specs.Reports.{refusal_line, PairLine, PairLines, RefusalPrinted, ReviewSays}
 use Rattle.review.proofs.Picking.{as_many_picked, picked_at}
 
 -- asks leave the folders as they are
@@ -96,10 +97,13 @@ module _ (G H : Graph) (ps : List Pair) (m : ℕ) where
       let long = list.0 in
       length-take-le n after (omega arith)
 
+  pub bounded : (i : ℕ) (p : Pair) (r : asking.Answer) (n : ℕ) (after : List ℕ) → Accepted G → Accepted H → Asked i p r after → LeastLength G H p.left p.right n → n ≤ longest
+  bounded i p r n after a b h least = h.not_long (ready First i a) (ready Second i b) n least
+
   pub not_too_short : (i : ℕ) (p : Pair) (n : ℕ) (after : List ℕ) → Accepted G → Accepted H → Asked i p (Err (TooShort n)) after → m < longest
   not_too_short i p n after a b h =
       let s = h.says in
-      let bound = h.not_long (ready First i a) (ready Second i b) n s.3 in
+      let bound = bounded i p (Err (TooShort n)) n after a b h s.3 in
       let many : length (replicate {A = ℕ} m 0) ≡ m = length-replicate {A = ℕ} m 0 in
       let past = s.4 in
       omega arith
@@ -109,7 +113,9 @@ pair_line : (G H : Graph) (ps : List Pair) (i : ℕ) (p : Pair) (r : asking.Answ
 pair_line G H ps i p (Ok Never) after a b h = let s = h.says in inr (inl (s.2, s.3, refl))
 pair_line G H ps i p (Ok (Reached n)) after a b h =
     let s = h.says in
-    inr (inr (take n after, s.2, h.moves, subst (LeastLength G H p.left p.right) (sym (many_moves G H ps longest i p n after h)) s.3, refl))
+    let many = many_moves G H ps longest i p n after h in
+    let few = bounded G H ps longest i p (Ok (Reached n)) n after a b h s.3 in
+    inr (inr (take n after, s.2, h.moves, subst (LeastLength G H p.left p.right) (sym many) s.3, (let low : length (take n after) ≤ longest = omega arith in low), refl))
 pair_line G H ps i p (Err (NoSummary s)) after a b h = no_summary_missing G H ps longest i p s after a b h
 pair_line G H ps i p (Err (NoLocation s)) after a b h = inl (s, h.says.2, refl)
 pair_line G H ps i p (Err (TooShort n)) after a b h = let short = not_too_short G H ps longest i p n after a b h in absurd (omega arith)
@@ -238,6 +244,12 @@ module _ {A B : Type 0} (f : A → Graph) (g : B → Graph) (a : A) (b : B) (cs 
   pub second_refused : (r : Refusal) → Refuses answers 1 (Some r) → (d : SummariseFault) × Refused (g b) d × (r ≡ summarise_refusal d)
   second_refused r h = refused_by (g b) 1 r right_summary h
 
+  -- what follows from the answers, where both graphs are accepted, and the refusals
+  pub by_summaries : (refusing : Side → Refusal → Type 0) (X Y : Type 0) → (Accepted (f a) → Accepted (g b) → X → Y) → ByAnswers answers refusing X → BySummaries (f a) (g b) refusing Y
+  by_summaries refusing X Y k (inl t) = let d = first_refused t.0 t.1 in inl (d.0, d.1, subst (refusing Left) d.2 t.2)
+  by_summaries refusing X Y k (inr (inl t)) = let s = t.1 in let d = second_refused s.0 s.1 in inr (inl (d.0, accepted_left t.0, d.1, subst (refusing Right) d.2 s.2))
+  by_summaries refusing X Y k (inr (inr t)) = let one = accepted_left t.0 in let two = accepted_right t.1 in inr (inr (one, two, k one two t.2))
+
 -- the lines of a run
 
 some_injective : {X : Type 0} {x y : X} → Some x ≡ Some y → x ≡ y
@@ -270,28 +282,17 @@ module _ {A B : Type 0} (f : A → Graph) (g : B → Graph) (a : A) (b : B) (cs 
         let text = slice_get-map line_text ls asked_at.0 ∙ ap (option_map line_text) (subst (λ n. slice_get ls n ≡ Some l.0) same told_there.2) ∙ ap (λ x. Some x) (sym l.2) in
         each_line ls one two tell asked_at.0 p line asked_at.2 text
 
-    judged : (ls picked : List Line) (text : List ℕ) → Refuses (vec_items ran.answers) 0 None → Refuses (vec_items ran.answers) 1 None → LinesTell ps (map (means f g) behind) ls → Picks ls ns picked → text ≡ lines_text picked → Judged (f a) (g b) pairs text
-    judged ls picked text first second tell picks is =
-        let one = accepted_left f g a b cs ran right ps longest script first in
-        let two = accepted_right f g a b cs ran right ps longest script second in
-        inr (inr (
-          one,
-          two,
-          record {
-            lines = map line_text picked;
-            whole = is ∙ in_lines picked;
-            as_many = length-map picked line_text ∙ as_many_picked ls ns picked picks ∙ sym (as_many_picked ps ns pairs places);
-            each = picked_line ls picked one two tell picks;
-          },
-        ))
+    picked_lines : (ls picked : List Line) (text : List ℕ) → Accepted (f a) → Accepted (g b) → LinesTell ps (map (means f g) behind) ls → Picks ls ns picked → text ≡ lines_text picked → PairLines (f a) (g b) pairs text
+    picked_lines ls picked text one two tell picks is = record {
+      lines = map line_text picked;
+      whole = is ∙ in_lines picked;
+      as_many = length-map picked line_text ∙ as_many_picked ls ns picked picks ∙ sym (as_many_picked ps ns pairs places);
+      each = picked_line ls picked one two tell picks;
+    }
 
-    -- what is told of a run's answers is what is to be judged of its graphs
-    pub told_judged : (text : List ℕ) → Told ps ns (vec_items ran.answers) text → Judged (f a) (g b) pairs text
-    told_judged text (inl t) = let d = first_refused f g a b cs ran right ps longest script t.0 t.1 in inl (d.0, d.1, t.2 ∙ ap (λ x. refusal_line x where_.Left) d.2)
-    told_judged text (inr (inl t)) =
-        let d = second_refused f g a b cs ran right ps longest script t.1.0 t.1.1 in
-        inr (inl (d.0, accepted_left f g a b cs ran right ps longest script t.0, d.1, t.1.2 ∙ ap (λ x. refusal_line x where_.Right) d.2))
-    told_judged text (inr (inr t)) = judged t.2.0 t.2.1 text t.0 t.1 (t.2.2 f g) t.2.3 t.2.4
+    -- what is told of a run's answers is what is to be said of its graphs
+    pub told_says : (text : List ℕ) → Told ps ns (vec_items ran.answers) text → ReviewSays (f a) (g b) pairs text
+    told_says text t = by_summaries f g a b cs ran right ps longest script (RefusalPrinted text) _ (PairLines (f a) (g b) pairs text) (λ one two x. picked_lines x.0 x.1 text one two (x.2 f g) x.3 x.4) t
 
 -- a report of one line, and a report by the meaning of a review
 

@@ -3,7 +3,7 @@ use Rattle.std.proofs.Common.{◌≡◌, ℕ, zero, suc, ◌+◌, ◌*◌, ◌/�
 use Rattle.std.proofs.lemmas.Grind.{flat_map-append}
 use Rattle.std.proofs.lemmas.List.{take_more, length-append, length-take-le}
 use Rattle.readers.specs.Encoding.{two_bytes}
-use Rattle.review.specs.Entries.{moves_bytes}
+use Rattle.review.specs.SinglePair.{moves_bytes}
 
 -- two places behind a front
 set_two : (front rest : List ℕ) (x y h l : ℕ) → set (set (front ++ x ∷ y ∷ rest) (length front) h) (suc (length front)) l ≡ front ++ h ∷ l ∷ rest

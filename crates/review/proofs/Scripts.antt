@@ -8,7 +8,7 @@ use Rattle.runs.specs.declared.calls.WhichFolder.TheVariants.{First, Second}
 use Rattle.runs.specs.Calls.{ask, summarise, call_meaning}
 use Rattle.runs.specs.Scripts.{ScriptContents, Added}
 use Rattle.search.specs.declared.threads.Pair.{Pair}
-use Rattle.review.specs.Judging.{question_of, asks_of, review_calls}
+use Rattle.review.specs.Asking.{question_of, asks_of, review_calls}
 
 -- where there is room the call is added
 pub added : {A B : Type 0} (s t : ScriptContents A B) (c : Call A B) (r : Result (Unit {0}) (Call A B)) → Added s c r t → length s.calls < s.most → t ≡ record { calls = s.calls ++ c ∷ []; most = s.most }

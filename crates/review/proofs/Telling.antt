@@ -5,7 +5,7 @@ use Rattle.runs.specs.declared.calls.Answer.{Answer}
 use Rattle.runs.specs.Calls.{AnswerMeaning, answer_meaning}
 use Rattle.search.specs.declared.threads.Pair.{Pair}
 use Rattle.review.specs.declared.lines.line.Line.{Line}
-use Rattle.review.specs.Judging.{told, Tells, LinesTell, AllTell}
+use Rattle.review.specs.Telling.{told, Tells, LinesTell, AllTell}
 use Rattle.review.specs.Lines.{line_text}
 
 lines_push : (ps : List Pair) (zs : List AnswerMeaning) (ls : List Line) (p : Pair) (z : AnswerMeaning) (l : Line) → length ps ≡ length zs → line_text l ≡ told p z → LinesTell ps zs ls → LinesTell (ps ++ p ∷ []) (zs ++ z ∷ []) (ls ++ l ∷ [])

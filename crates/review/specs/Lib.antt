@@ -1,9 +1,9 @@
+pub mod Asking
+pub mod Cases
 pub mod Commands
 pub mod Digits
 pub mod Entering
-pub mod Entries
 pub mod FileFaults
-pub mod Judging
 pub mod Limits
 pub mod LineFaults
 pub mod Lines
@@ -13,4 +13,6 @@ pub mod Readers
 pub mod Reports
 pub mod Reviews
 pub mod Sections
+pub mod SinglePair
 pub mod Taking
+pub mod Telling

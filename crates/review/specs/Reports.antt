@@ -1,21 +1,17 @@
 -- What is printed of a review file.
-use Rattle.std.specs.Prelude.{◌≡◌, ℕ, ◌⊎◌, List, length, ◌++◌, Some, Ok, Err, Result}
+use Rattle.std.specs.Prelude.{◌≡◌, ℕ, List, length, ◌++◌, Some, Ok, Err, Result}
 use Rattle.std.specs.List.{slice_get, flat_map}
 use Rattle.layers.specs.Renaming.{renamed_graph}
 use Rattle.locks.specs.declared.refusals.Refusal.{Refusal}
 use Rattle.locks.specs.declared.together.Side.{Side}
+use Rattle.locks.specs.declared.together.Side.TheVariants.{Left, Right}
 use Rattle.locks.specs.Graphs.{Graph}
-use Rattle.locks.specs.Schedules.{Replays}
-use Rattle.locks.specs.Shortest.{LeastLength, NoSchedule}
 use Rattle.readers.specs.Graph.{listing_graph}
-use Rattle.search.specs.declared.faults.SummariseFault.{SummariseFault}
 use Rattle.search.specs.declared.threads.Pair.{Pair}
-use Rattle.search.specs.Faults.{summarise_refusal}
-use Rattle.search.specs.Sides.{BothThere, Missing}
-use Rattle.search.specs.Summarising.{Accepted, Refused}
 use Rattle.review.specs.declared.file.fault.FileFault.{FileFault}
 use Rattle.review.specs.declared.file.fault.Within.{Within}
 use Rattle.review.specs.declared.file.fault.Within.TheVariants as where_
+use Rattle.review.specs.Cases.{BySummaries, ByPair}
 use Rattle.review.specs.FileFaults.{file_refusal, within}
 use Rattle.review.specs.Lines.{newline, reached_text, never_text, missing_text, refused_text}
 use Rattle.review.specs.Reviews.{Meaning, FileSays}
@@ -31,12 +27,10 @@ right_graph m = renamed_graph m.numbers (listing_graph m.rights)
 abbrev pub refusal_line : Refusal → Within → List ℕ
 refusal_line r w = refused_text r.number r.place w ++ newline
 
--- the line of a pair: a location is not in its graph, or no schedule leads to it, or it is reached, with a shortest one
+-- the line of a pair
 abbrev pub PairLine : Graph → Graph → Pair → List ℕ → Type 0
 PairLine G H p line =
-    ((s : Side) × Missing G H p.left p.right s × (line ≡ missing_text p ++ newline))
-    ⊎ ((BothThere G H p.left p.right × NoSchedule G H p.left p.right × (line ≡ never_text p ++ newline))
-    ⊎ ((moves : List ℕ) × BothThere G H p.left p.right × Replays G H p.left p.right moves × LeastLength G H p.left p.right (length moves) × (line ≡ reached_text p moves ++ newline)))
+    ByPair G H p (λ s. line ≡ missing_text p ++ newline) (line ≡ never_text p ++ newline) (λ moves. line ≡ reached_text p moves ++ newline)
 
 -- a line for each pair, in order
 pub record PairLines (G H : Graph) (pairs : List Pair) (text : List ℕ) : Type 0 where
@@ -45,16 +39,21 @@ pub record PairLines (G H : Graph) (pairs : List Pair) (text : List ℕ) : Type 
   pub as_many : length lines ≡ length pairs
   pub each : (i : ℕ) (p : Pair) (line : List ℕ) → slice_get pairs i ≡ Some p → slice_get lines i ≡ Some line → PairLine G H p line
 
--- the refusal of a summary, the left first, or the lines of the pairs
-abbrev pub Judged : Graph → Graph → List Pair → List ℕ → Type 0
-Judged G H pairs text =
-    ((f : SummariseFault) × Refused G f × (text ≡ refusal_line (summarise_refusal f) where_.Left))
-    ⊎ (((f : SummariseFault) × Accepted G × Refused H f × (text ≡ refusal_line (summarise_refusal f) where_.Right))
-    ⊎ (Accepted G × Accepted H × PairLines G H pairs text))
+abbrev pub of_thread : Side → Within
+of_thread Left = where_.Left
+of_thread Right = where_.Right
+
+-- the text is the line of this refusal, which arose in this thread
+abbrev pub RefusalPrinted : List ℕ → Side → Refusal → Type 0
+RefusalPrinted text s r = text ≡ refusal_line r (of_thread s)
+
+-- the refusal of a summary, or the lines of the pairs
+abbrev pub ReviewSays : Graph → Graph → List Pair → List ℕ → Type 0
+ReviewSays G H pairs text = BySummaries G H (RefusalPrinted text) (PairLines G H pairs text)
 
 -- the report of a file by what it says
 abbrev pub ReportOf : Result Meaning FileFault → List ℕ → Type 0
-ReportOf (Ok m) text = Judged (left_graph m) (right_graph m) m.pairs text
+ReportOf (Ok m) text = ReviewSays (left_graph m) (right_graph m) m.pairs text
 ReportOf (Err f) text = text ≡ refusal_line (file_refusal f) (within f)
 
 -- the text is the report of the file

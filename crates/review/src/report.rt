@@ -1,9 +1,7 @@
 // The report of a review file: what is printed of it.
 mod asks;
-mod judging;
 mod making;
 mod printing;
+mod telling;
 
-pub(crate) use judging::script;
-pub(crate) use making::refusal;
 pub use making::report;

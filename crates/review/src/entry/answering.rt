@@ -2,10 +2,10 @@
 ghost use Rattle.std.specs.Prelude.{◌≡◌, IfOk, IfErr};
 ghost use Rattle.readers.specs.Graph.{listing_graph};
 ghost use Rattle.readers.specs.Place.{commands_in};
-ghost use Rattle.review.specs.Entries.{Ran, ListingsSay, GraphsSay};
+ghost use Rattle.review.specs.SinglePair.{Ran, ListingsSay, GraphsSay};
 
+use crate::asking::{refusal, script};
 use crate::entry::moves::write_moves;
-use crate::report::{refusal, script};
 use locks::refusals::Refusal;
 use pairs::answers::Verdict;
 use readers::listing::Listing;

@@ -1,5 +1,6 @@
+// The moves of a schedule as bytes.
 ghost use Rattle.std.specs.Prelude.{◌≡◌, ◌*◌, ◌≤◌, ◌++◌, length, drop};
-ghost use Rattle.review.specs.Entries.{moves_bytes};
+ghost use Rattle.review.specs.SinglePair.{moves_bytes};
 
 // Each move as two bytes, the higher first, at the front of the run; the rest of it stays.
 pub(crate) fn write_moves(run: &mut [u8], moves: &[u16])

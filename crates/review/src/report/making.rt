@@ -1,15 +1,17 @@
+// A whole file's report: what is read, asked and told.
 ghost use Rattle.std.specs.Prelude.{◌≡◌, ◌+◌, ◌<◌, length, IfOk};
 ghost use Rattle.std.specs.List.{All};
-ghost use Rattle.review.specs.Judging.{Refuses, Told};
 ghost use Rattle.review.specs.Lines.{line_text};
-ghost use Rattle.review.specs.Reports.{left_graph, right_graph, refusal_line, Judged, Reports};
+ghost use Rattle.review.specs.Reports.{left_graph, right_graph, refusal_line, ReviewSays, Reports};
 ghost use Rattle.review.specs.Reviews.{review_of};
+ghost use Rattle.review.specs.Telling.{Told};
 
+use crate::asking::{refusal, script};
 use crate::file::{Review, Within};
 use crate::lines::Line;
 use crate::report::asks::Asks;
-use crate::report::judging::{Right, lines, picked, script};
 use crate::report::printing::print;
+use crate::report::telling::{Right, lines, picked};
 use graph::ThreadGraph;
 use locks::refusals::Refusal;
 use pairs::asking::most_moves;
@@ -30,7 +32,7 @@ pub fn report(heap: Global, file: &[u8]) -> Result<Vec<u8>, AllocError>
 }
 
 fn judge(heap: Global, review: Review) -> Result<Vec<u8>, AllocError>
-    ensures { IfOk result (λ text. Judged (left_graph (review_of review)) (right_graph (review_of review)) (review_of review).pairs text.items) }
+    ensures { IfOk result (λ text. ReviewSays (left_graph (review_of review)) (right_graph (review_of review)) (review_of review).pairs text.items) }
 {
     let (left, right, pairs) = review.into_parts();
     let asks = Asks::of(heap, &pairs, left.locations(), right.locations())?;
@@ -66,15 +68,5 @@ fn refused(refusal: Refusal, within: Within) -> Line<'static>
         number: refusal.number,
         place: refusal.place,
         within,
-    }
-}
-
-// The refusal of the summary that this answer is of.
-pub(crate) fn refusal<A, B>(answers: &[Answer<A, B>], place: usize) -> Option<Refusal>
-    ensures { Refuses answers.now place result }
-{
-    match answers.get(place) {
-        Some(Answer::Summarised(Err(fault))) => Some(fault.refusal()),
-        _ => None,
     }
 }

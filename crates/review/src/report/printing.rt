@@ -1,7 +1,7 @@
 // Lines, one behind another.
 ghost use Rattle.std.specs.Prelude.{◌≡◌, ◌++◌, IfOk};
 ghost use Rattle.review.specs.Lines.{line_text};
-ghost use Rattle.review.specs.Judging.{lines_text};
+ghost use Rattle.review.specs.Telling.{lines_text};
 
 use crate::lines::Line;
 use std::alloc::{AllocError, Global};

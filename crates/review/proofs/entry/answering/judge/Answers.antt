@@ -1,5 +1,5 @@
 use Rattle.std.proofs.Common.{subst}
-use Rattle.review.specs.Entries.{Ran}
+use Rattle.review.specs.SinglePair.{Ran}
 use Rattle.review.proofs.Entering.{ran_says}
 use Rattle.review.proofs.entry.answering.judge.Goals as goal
 

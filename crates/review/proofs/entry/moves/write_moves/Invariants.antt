@@ -1,5 +1,5 @@
 use Rattle.std.proofs.Common.{◌≡◌, ◌*◌, ◌++◌, length, take, drop}
-use Rattle.review.specs.Entries.{moves_bytes}
+use Rattle.review.specs.SinglePair.{moves_bytes}
 use Rattle.review.proofs.entry.moves.write_moves.Given as goal
 
 abbrev pub invariant-loop-place : goal.invariant-loop-place

@@ -1,9 +1,10 @@
 use Rattle.std.proofs.Common.{length, vec_items, ap, subst, ◌∙◌}
 use Rattle.pairs.specs.Answers.{longest}
-use Rattle.review.specs.Judging.{review_calls, Told}
+use Rattle.review.specs.Asking.{review_calls}
+use Rattle.review.specs.Telling.{Told}
 use Rattle.review.specs.Picking.{Picks}
-use Rattle.review.specs.Reports.{left_graph, right_graph, Judged}
-use Rattle.review.proofs.Judging.{as_many, told_judged, if_ok}
+use Rattle.review.specs.Reports.{left_graph, right_graph, ReviewSays}
+use Rattle.review.proofs.Judging.{as_many, told_says, if_ok}
 use Rattle.review.proofs.Picking.{places_within}
 use Rattle.review.proofs.report.making.judge.Goals as goal
 
@@ -25,6 +26,6 @@ returns c =
     let script = c.in_ok-script.ensures _ _ ∙ ap (λ ps. review_calls ps c.most_moves.result) c.deref-2.ensures.value ∙ ap (review_calls asked) c.most_moves.ensures.value in
     let picks = subst (Picks asked places) c.deref.ensures.value c.in_ok-asks.ensures in
     if_ok c.tell.result c.tell.ensures (λ text told.
-    subst (λ m. Judged (left_graph m) (right_graph m) m.pairs (vec_items text)) c.into_parts-left.ensures
-    (told_judged _ _ _ _ _ c.run-ran.result c.run-ran.ensures.right asked script pairs places picks (vec_items text)
+    subst (λ m. ReviewSays (left_graph m) (right_graph m) m.pairs (vec_items text)) c.into_parts-left.ensures
+    (told_says _ _ _ _ _ c.run-ran.result c.run-ran.ensures.right asked script pairs places picks (vec_items text)
     (subst (λ zs. Told asked places zs (vec_items text)) c.deref-3.ensures.value told)))

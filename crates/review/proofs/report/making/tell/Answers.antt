@@ -1,6 +1,6 @@
 use Rattle.std.proofs.Common.{◌<◌, drop, length, inr, vec_items, ap, subst, sym, ◌∙◌}
 use Rattle.std.specs.List.{All}
-use Rattle.review.specs.Judging.{AllTell, lines_text}
+use Rattle.review.specs.Telling.{AllTell, lines_text}
 use Rattle.review.specs.Picking.{Picks}
 use Rattle.review.proofs.Judging.{if_ok, part_behind}
 use Rattle.review.proofs.report.making.tell.Goals as goal

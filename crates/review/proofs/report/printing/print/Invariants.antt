@@ -1,5 +1,5 @@
 use Rattle.std.proofs.Common.{◌≡◌, take, vec_items}
-use Rattle.review.specs.Judging.{lines_text}
+use Rattle.review.specs.Telling.{lines_text}
 use Rattle.review.proofs.report.printing.print.Given as goal
 
 abbrev pub invariant-loop-line : goal.invariant-loop-line

@@ -1,6 +1,6 @@
 use Rattle.std.proofs.Common.{◌≡◌, ◌≤◌, length, take, vec_items, vec_capacity}
 use Rattle.review.specs.Picking.{Picks}
-use Rattle.review.proofs.report.judging.picked.Given as goal
+use Rattle.review.proofs.report.telling.picked.Given as goal
 
 abbrev pub invariant-loop-place : goal.invariant-loop-place
 invariant-loop-place l = record {

@@ -1,7 +1,7 @@
 use Rattle.std.proofs.Common.{◌≡◌, ◌+◌, length, take}
 use Rattle.runs.specs.Scripts.{written}
-use Rattle.review.specs.Judging.{ScriptSays}
-use Rattle.review.proofs.report.judging.script.Given as goal
+use Rattle.review.specs.Asking.{ScriptSays}
+use Rattle.review.proofs.asking.script.Given as goal
 
 abbrev pub invariant-loop-pair : goal.invariant-loop-pair
 invariant-loop-pair g l = record {

@@ -3,9 +3,9 @@ use Rattle.std.proofs.lemmas.List.{take_all, length_push}
 use Rattle.runs.specs.declared.calls.Call.TheVariants as code
 use Rattle.runs.specs.Calls.{call_meaning}
 use Rattle.runs.specs.Scripts.{written}
-use Rattle.review.specs.Judging.{ScriptSays}
+use Rattle.review.specs.Asking.{ScriptSays}
 use Rattle.review.proofs.Scripts.{added, asked_more}
-use Rattle.review.proofs.report.judging.script.Goals as goal
+use Rattle.review.proofs.asking.script.Goals as goal
 
 pub loop-pair-preserved : goal.loop-pair-preserved
 loop-pair-preserved g c =

@@ -1,7 +1,7 @@
 use Rattle.std.proofs.Common.{◌+◌, length, vec_items, ap, ◌∙◌, arith}
 use Rattle.std.proofs.lemmas.List.{length_push}
 use Rattle.review.proofs.Picking.{pick_next}
-use Rattle.review.proofs.report.judging.picked.Goals as goal
+use Rattle.review.proofs.report.telling.picked.Goals as goal
 
 pub loop-place-preserved : goal.loop-place-preserved
 loop-place-preserved c =

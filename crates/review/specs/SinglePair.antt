@@ -4,8 +4,6 @@ use Rattle.std.specs.List.{slice_get, flat_map}
 use Rattle.locks.specs.declared.refusals.Refusal.{Refusal}
 use Rattle.locks.specs.declared.together.Side.{Side}
 use Rattle.locks.specs.Graphs.{Graph}
-use Rattle.locks.specs.Schedules.{Replays}
-use Rattle.locks.specs.Shortest.{LeastLength, NoSchedule}
 use Rattle.pairs.specs.Answers.{ask_refusal}
 use Rattle.pairs.specs.declared.answers.AskFault.TheVariants.{NoLocation, TooShort}
 use Rattle.pairs.specs.declared.answers.Verdict.{Verdict}
@@ -18,33 +16,32 @@ use Rattle.readers.specs.Graph.{listing_graph}
 use Rattle.readers.specs.Reading.{listing}
 use Rattle.runs.specs.declared.calls.Answer.{Answer}
 use Rattle.runs.specs.declared.calls.Answer.TheVariants as back
-use Rattle.search.specs.declared.faults.SummariseFault.{SummariseFault}
 use Rattle.search.specs.declared.threads.Pair.{Pair}
-use Rattle.search.specs.Faults.{summarise_refusal}
-use Rattle.search.specs.Sides.{BothThere, Missing}
-use Rattle.search.specs.Summarising.{Accepted, Refused}
-use Rattle.review.specs.Judging.{Refuses}
+use Rattle.review.specs.Asking.{ByAnswers}
+use Rattle.review.specs.Cases.{BySummaries, ByPair}
 
 -- each move is two bytes, the higher first
 abbrev pub moves_bytes : List ℕ → List ℕ
 moves_bytes ms = flat_map two_bytes ms
 
--- The answer to an ask and the run of bytes after it: a location is not in its graph, no schedule leads there, a shortest
--- one has no room, or it is written at the front. The run has room for half as many moves as it has bytes.
-abbrev pub AskSays : Graph → Graph → Pair → List ℕ → Result Verdict Refusal → List ℕ → Type 0
-AskSays G H p before q after =
-    ((s : Side) × Missing G H p.left p.right s × (q ≡ Err (ask_refusal (NoLocation s))) × (after ≡ before))
-    ⊎ ((BothThere G H p.left p.right × NoSchedule G H p.left p.right × (q ≡ Ok Never) × (after ≡ before))
-    ⊎ (((n : ℕ) × BothThere G H p.left p.right × LeastLength G H p.left p.right n × (length before / 2 < n) × (q ≡ Err (ask_refusal (TooShort n))) × (after ≡ before))
-    ⊎ ((moves : List ℕ) × BothThere G H p.left p.right × Replays G H p.left p.right moves × LeastLength G H p.left p.right (length moves) × (length moves ≤ length before / 2)
-    × (q ≡ Ok (Reached (length moves))) × (after ≡ moves_bytes moves ++ drop (2 * length moves) before))))
+-- a shortest schedule stands at the front of the run, or has no room there: that is for half as many moves as it has bytes
+abbrev pub MovesSay : List ℕ → List ℕ → Result Verdict Refusal → List ℕ → Type 0
+MovesSay moves before q after =
+    ((length before / 2 < length moves) × (q ≡ Err (ask_refusal (TooShort (length moves)))) × (after ≡ before))
+    ⊎ ((length moves ≤ length before / 2) × (q ≡ Ok (Reached (length moves))) × (after ≡ moves_bytes moves ++ drop (2 * length moves) before))
 
--- the refusal of a summary, the left one first, or the answer to the ask
+-- the answer to an ask, and the run of bytes after it
+abbrev pub PairSays : Graph → Graph → Pair → List ℕ → Result Verdict Refusal → List ℕ → Type 0
+PairSays G H p before q after =
+    ByPair G H p (λ s. (q ≡ Err (ask_refusal (NoLocation s))) × (after ≡ before)) ((q ≡ Ok Never) × (after ≡ before)) (λ moves. MovesSay moves before q after)
+
+-- the answer is this refusal, whichever thread it arose in, and the run stays
+abbrev pub RefusalAnswered : List ℕ → Result Verdict Refusal → List ℕ → Side → Refusal → Type 0
+RefusalAnswered before q after s r = (q ≡ Err r) × (after ≡ before)
+
+-- the refusal of a summary, or the answer to the ask
 abbrev pub GraphsSay : Graph → Graph → Pair → List ℕ → Result Verdict Refusal → List ℕ → Type 0
-GraphsSay G H p before q after =
-    ((f : SummariseFault) × Refused G f × (q ≡ Err (summarise_refusal f)) × (after ≡ before))
-    ⊎ (((f : SummariseFault) × Accepted G × Refused H f × (q ≡ Err (summarise_refusal f)) × (after ≡ before))
-    ⊎ (Accepted G × Accepted H × AskSays G H p before q after))
+GraphsSay G H p before q after = BySummaries G H (RefusalAnswered before q after) (PairSays G H p before q after)
 
 -- the refusal of a listing, the left one first, or the answer by their graphs
 abbrev pub ListingsSay : List ℕ → List ℕ → Pair → List ℕ → Result Verdict Refusal → List ℕ → Type 0
@@ -65,9 +62,6 @@ AskTold (Some (back.Entry e)) before q after = Unit {0}
 AskTold (Some (back.Replayed r ms)) before q after = Unit {0}
 AskTold None before q after = Unit {0}
 
--- what the answers of a run say: both summaries and the ask, or the refusal that came first
+-- what the answers of a run say: the refusal of a summary, or the answer to the ask
 abbrev pub Ran : {A B : Type 0} → List (Answer A B) → List ℕ → Result Verdict Refusal → List ℕ → Type 0
-Ran answers before q after =
-    ((r : Refusal) × Refuses answers 0 (Some r) × (q ≡ Err r) × (after ≡ before))
-    ⊎ ((Refuses answers 0 None × ((r : Refusal) × Refuses answers 1 (Some r) × (q ≡ Err r) × (after ≡ before)))
-    ⊎ (Refuses answers 0 None × Refuses answers 1 None × AskTold (slice_get answers 2) before q after))
+Ran answers before q after = ByAnswers answers (RefusalAnswered before q after) (AskTold (slice_get answers 2) before q after)

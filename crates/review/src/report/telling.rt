@@ -1,53 +1,18 @@
-// Which calls a review makes, and what their answers say of its pairs.
+// What the answers about the pairs say, as lines.
 ghost use Rattle.std.specs.Prelude.{◌≡◌, ◌<◌, IfOk, length, vec_items};
 ghost use Rattle.std.specs.List.{All};
-ghost use Rattle.review.specs.Judging.{question_of, ScriptSays, Tells, AllTell};
 ghost use Rattle.review.specs.Picking.{Picks};
+ghost use Rattle.review.specs.Telling.{Tells, AllTell};
 
 use crate::lines::Line;
 use layers::renamed::Renamed;
 use pairs::answers::Verdict;
 use readers::listing::Listing;
-use runs::calls::{Answer, Call, Question, Site, WhichFolder};
-use runs::scripts::Script;
+use runs::calls::Answer;
 use search::threads::Pair;
 use std::alloc::{AllocError, Global};
 
 pub(crate) type Right = Renamed<Listing>;
-
-// Both summaries, and then each pair, with a list of so many places.
-pub(crate) fn script<A: Drop, B: Drop>(
-    heap: Global,
-    pairs: &[Pair],
-    places: usize,
-) -> Result<Script<A, B>, AllocError>
-    ensures { IfOk result (λ s. ScriptSays s pairs.now places) }
-{
-    let mut script = Script::new(heap, pairs.len() + 2)?;
-    let _ = script.add(Call::Summarise(WhichFolder::First));
-    let _ = script.add(Call::Summarise(WhichFolder::Second));
-    for pair in pairs {
-        let list = vec![in heap; 0; places]?;
-        let _ = script.add(Call::Ask(question(*pair), list));
-    }
-    Ok(script)
-}
-
-// The left location is of the first folder, the right one of the second.
-fn question(pair: Pair) -> Question
-    ensures { result ≡ question_of pair }
-{
-    Question {
-        left: Site {
-            folder: WhichFolder::First,
-            location: pair.left,
-        },
-        right: Site {
-            folder: WhichFolder::Second,
-            location: pair.right,
-        },
-    }
-}
 
 // What became of each pair, from the answers to its asks.
 pub(crate) fn lines<'a>(

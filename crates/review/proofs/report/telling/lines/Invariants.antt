@@ -1,6 +1,6 @@
 use Rattle.std.proofs.Common.{◌≡◌, ◌≤◌, length, take, vec_items, vec_capacity}
-use Rattle.review.specs.Judging.{AllTell}
-use Rattle.review.proofs.report.judging.lines.Given as goal
+use Rattle.review.specs.Telling.{AllTell}
+use Rattle.review.proofs.report.telling.lines.Given as goal
 
 abbrev pub invariant-loop-place : goal.invariant-loop-place
 invariant-loop-place l = record {

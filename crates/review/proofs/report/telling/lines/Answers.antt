@@ -1,9 +1,9 @@
 use Rattle.std.proofs.Common.{◌+◌, length, take, get_or, vec_items, sym, ap, subst, ◌∙◌, arith}
 use Rattle.std.proofs.lemmas.List.{take_all, length_push}
 use Rattle.search.specs.declared.threads.Pair.{Pair}
-use Rattle.review.specs.Judging.{Tells, AllTell}
+use Rattle.review.specs.Telling.{Tells, AllTell}
 use Rattle.review.proofs.Telling.{tell_more}
-use Rattle.review.proofs.report.judging.lines.Goals as goal
+use Rattle.review.proofs.report.telling.lines.Goals as goal
 
 pub loop-place-preserved : goal.loop-place-preserved
 loop-place-preserved c =

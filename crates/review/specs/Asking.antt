@@ -1,0 +1,45 @@
+-- The calls that a review makes, and which of the summaries are refused.
+use Rattle.std.specs.Prelude.{◌≡◌, ℕ, ◌⊎◌, List, ◌∷◌, map, replicate, Some, None, Err, Option}
+use Rattle.std.specs.List.{slice_get}
+use Rattle.locks.specs.declared.refusals.Refusal.{Refusal}
+use Rattle.locks.specs.declared.together.Side.{Side}
+use Rattle.locks.specs.declared.together.Side.TheVariants as side
+use Rattle.locks.specs.Graphs.{Graph}
+use Rattle.runs.specs.declared.calls.Answer.{Answer}
+use Rattle.runs.specs.declared.calls.Answer.TheVariants as back
+use Rattle.runs.specs.declared.calls.Question.{Question}
+use Rattle.runs.specs.declared.calls.WhichFolder.TheVariants.{First, Second}
+use Rattle.runs.specs.declared.scripts.Script.{Script}
+use Rattle.runs.specs.Calls.{CallMeaning, summarise, ask, call_meaning}
+use Rattle.runs.specs.Scripts.{written}
+use Rattle.search.specs.declared.faults.SummariseFault.{SummariseFault}
+use Rattle.search.specs.declared.threads.Pair.{Pair}
+use Rattle.search.specs.Faults.{summarise_refusal}
+
+-- the left location is of the first folder, the right one of the second
+abbrev pub question_of : Pair → Question
+question_of p = record { left = record { folder = First; location = p.left }; right = record { folder = Second; location = p.right } }
+
+-- an ask for each pair, with lists of k places
+abbrev pub asks_of : List Pair → ℕ → List CallMeaning
+asks_of pairs k = map (λ p. ask (question_of p) (replicate k 0)) pairs
+
+-- both summaries, and then each pair
+abbrev pub review_calls : List Pair → ℕ → List CallMeaning
+review_calls pairs k = summarise First ∷ summarise Second ∷ asks_of pairs k
+
+-- whatever graphs mean, since no call has one
+abbrev pub ScriptSays : {A B : Type 0} → Script A B → List Pair → ℕ → Type 0
+ScriptSays {A} {B} s pairs k = (f : A → Graph) (g : B → Graph) → map (call_meaning f g) (written s).calls ≡ review_calls pairs k
+
+-- the answer at this place is a refused summarise, or none is there
+abbrev pub Refuses : {A B : Type 0} → List (Answer A B) → ℕ → Option Refusal → Type 0
+Refuses answers n (Some r) = (f : SummariseFault) × (slice_get answers n ≡ Some (back.Summarised (Err f))) × (r ≡ summarise_refusal f)
+Refuses answers n None = (f : SummariseFault) → slice_get answers n ≡ Some (back.Summarised (Err f)) → ⊥
+
+-- the refusal of a summary, the left one's first, or what is said of the other answers
+abbrev pub ByAnswers : {A B : Type 0} → List (Answer A B) → (Side → Refusal → Type 0) → Type 0 → Type 0
+ByAnswers answers refusing accepting =
+    ((r : Refusal) × Refuses answers 0 (Some r) × refusing side.Left r)
+    ⊎ ((Refuses answers 0 None × ((r : Refusal) × Refuses answers 1 (Some r) × refusing side.Right r))
+    ⊎ (Refuses answers 0 None × Refuses answers 1 None × accepting))
