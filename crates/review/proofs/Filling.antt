@@ -30,10 +30,10 @@ moves_more before text after at ms i d h f =
     subst (λ xs. Filled before (text ++ xs) after at) (sym more) (joined before after text (moves_text (take i ms)) (move_text (get_or ms i d)) at f)
 
 pub moves_are_told : MovesAreTold
-moves_are_told choice h =
-    let left = codes " L" ++ decimal choice in
-    let right = codes " R" ++ decimal (256 + choice - 256) in
-    let back : 256 + choice - 256 ≡ choice = omega arith in (
-      cond-true (ltb choice 256) left (codes " R" ++ decimal (choice - 256)) (lt-ltb choice 256 h),
-      cond-false (ltb (256 + choice) 256) (codes " L" ++ decimal (256 + choice)) right (le-ltb (256 + choice) 256 (omega arith)) ∙ ap (λ n. codes " R" ++ decimal n) back,
-    )
+moves_are_told = (
+  (λ choice h. cond-true (ltb choice 256) (codes " L" ++ decimal choice) (codes " R" ++ decimal (choice - 256)) (lt-ltb choice 256 h)),
+  (λ choice.
+      let right = codes " R" ++ decimal (256 + choice - 256) in
+      let back : 256 + choice - 256 ≡ choice = omega arith in
+      cond-false (ltb (256 + choice) 256) (codes " L" ++ decimal (256 + choice)) right (le-ltb (256 + choice) 256 (omega arith)) ∙ ap (λ n. codes " R" ++ decimal n) back),
+)

@@ -10,3 +10,4 @@ pub mod Picking
 pub mod Reading
 pub mod Scripts
 pub mod Telling
+pub mod WorkedFiles

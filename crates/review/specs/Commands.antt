@@ -22,11 +22,11 @@ kind_of end = kind.End
 
 -- the byte that begins a command
 abbrev pub first_byte : CommandKind → ℕ
-first_byte kind.Left = 16
-first_byte kind.Right = 17
-first_byte kind.Pair = 18
-first_byte kind.Rename = 19
-first_byte kind.End = 31
+first_byte kind.Left = 0x10
+first_byte kind.Right = 0x11
+first_byte kind.Pair = 0x12
+first_byte kind.Rename = 0x13
+first_byte kind.End = 0x1f
 
 -- and what follows it
 abbrev pub operands : Command → List ℕ
@@ -66,9 +66,3 @@ SectionsStandBehindHeaders =
     → (drop (header kind.Left) (written (left bs)) ≡ bs)
     × (drop (header kind.Right) (written (right bs)) ≡ bs)
     × (drop (header kind.Rename) (written (rename bs)) ≡ bs)
-
--- a worked file, byte by byte
-abbrev pub WorkedFileIsItsBytes : Type 0
-WorkedFileIsItsBytes =
-    encode (left (2 ∷ 0 ∷ 0 ∷ []) ∷ right (1 ∷ 0 ∷ []) ∷ rename (1 ∷ 0 ∷ 2 ∷ 3 ∷ 4 ∷ 5 ∷ 6 ∷ 7 ∷ []) ∷ pair 1 256 ∷ end ∷ [])
-    ≡ 16 ∷ 0 ∷ 3 ∷ 2 ∷ 0 ∷ 0 ∷ 17 ∷ 0 ∷ 2 ∷ 1 ∷ 0 ∷ 19 ∷ 1 ∷ 0 ∷ 2 ∷ 3 ∷ 4 ∷ 5 ∷ 6 ∷ 7 ∷ 18 ∷ 0 ∷ 1 ∷ 1 ∷ 0 ∷ 31 ∷ []

@@ -16,3 +16,4 @@ pub mod Sections
 pub mod SinglePair
 pub mod Taking
 pub mod Telling
+pub mod WorkedFiles

@@ -23,12 +23,11 @@ pair_text p = ((decimal p.left ++ codes " ") ++ decimal p.right) ++ codes " "
 abbrev pub move_text : ℕ → List ℕ
 move_text m = cond (nat_lt m 256) (codes " L" ++ decimal m) (codes " R" ++ decimal (m - 256))
 
--- a move of the left thread is told as L and its choice, one of the right as R and its choice
+-- a number below 256 is told as L and itself, 256 and any number more as R and that number
 abbrev pub MovesAreTold : Type 0
 MovesAreTold =
-    (choice : ℕ) → choice < 256
-    → (move_text (number_of Left choice) ≡ codes " L" ++ decimal choice)
-    × (move_text (number_of Right choice) ≡ codes " R" ++ decimal choice)
+    ((choice : ℕ) → choice < 256 → move_text (number_of Left choice) ≡ codes " L" ++ decimal choice)
+    × ((choice : ℕ) → move_text (number_of Right choice) ≡ codes " R" ++ decimal choice)
 
 abbrev pub moves_text : List ℕ → List ℕ
 moves_text ms = flat_map move_text ms

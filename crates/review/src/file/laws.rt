@@ -1,6 +1,7 @@
 // What reading a file means, apart from how it is done.
-ghost use Rattle.review.specs.Commands.{SectionsStandBehindHeaders, WorkedFileIsItsBytes};
+ghost use Rattle.review.specs.Commands.{SectionsStandBehindHeaders};
 ghost use Rattle.review.specs.Reviews.{FilesReadBack};
+ghost use Rattle.review.specs.WorkedFiles.{WorkedFileIsItsBytes, WorkedFilesAreRefused};
 
 // A file that is written from its parts is read as these, and as nothing else.
 pub fn files_read_back()
@@ -15,4 +16,9 @@ pub fn sections_stand_behind_headers()
 // The bytes of a file with each command, worked out by hand.
 pub fn worked_file_is_its_bytes()
     ensures { WorkedFileIsItsBytes }
+{}
+
+// Files that are refused, with their numbers and places, worked out by hand.
+pub fn worked_files_are_refused()
+    ensures { WorkedFilesAreRefused }
 {}
