@@ -3,12 +3,13 @@ use Rattle.std.specs.Prelude.{◌≡◌, ℕ, zero, suc, pred, ◌+◌, ◌/◌,
 use Rattle.std.proofs.Common.{sym, ap, subst, ◌∙◌, arith}
 use Rattle.std.specs.List.{AllByRecursion}
 use Rattle.std.proofs.lemmas.Bool.{cond_both, lt-ltb, le-leb, leb-false, and_from}
+use Rattle.locks.specs.Limits.{lock_limit}
 use Rattle.readers.specs.declared.listing.command.Command.{Command}
 use Rattle.readers.specs.declared.listing.command.Command.TheVariants.{Stop, Pass, Take, Give, Goto, Either}
 use Rattle.readers.specs.declared.listing.fault.Wrong.{Wrong}
 use Rattle.readers.specs.declared.listing.fault.Wrong.TheVariants.{RunsOffTheEnd}
 use Rattle.readers.specs.declared.listing.fault.ListingFault.{ListingFault}
-use Rattle.readers.specs.Bytes.{first, width, locks}
+use Rattle.readers.specs.Bytes.{first, width}
 use Rattle.readers.specs.Encoding.{written, encode}
 use Rattle.readers.specs.Faults.{fault}
 use Rattle.readers.specs.Flow.{most, inside, goes_on, command_lock_known, end_at, flow, all_lead_inside, all_locks_known, stops_at_the_end, is_well_formed}
@@ -42,8 +43,8 @@ few (suc s) n at (b ∷ bs) room h = few s n (suc at) bs room h
 pub lock_known : (bs : List ℕ) (c : Command) → Spelt bs c → command_lock_known c ≡ true
 lock_known bs Stop s = refl
 lock_known bs Pass s = refl
-lock_known bs (Take k) s = lt-ltb k locks s.2
-lock_known bs (Give k) s = lt-ltb k locks s.2
+lock_known bs (Take k) s = lt-ltb k lock_limit s.2
+lock_known bs (Give k) s = lt-ltb k lock_limit s.2
 lock_known bs (Goto t) s = refl
 lock_known bs (Either t u) s = refl
 

@@ -1,11 +1,12 @@
 -- A command that cannot be taken off the bytes, and why.
 use Rattle.std.proofs.Common.{◌≡◌, ℕ, suc, ◌<◌, ◌≤◌, true, eqb, ltb, ◌⊎◌, List, [], ◌∷◌, length, Ok, Err, Result, refl, ap, subst, inl, inr, arith}
 use Rattle.std.proofs.lemmas.Bool.{cond_both, ltb-false, eqb-true, eqb-false, leb-true}
+use Rattle.locks.specs.Limits.{lock_limit}
 use Rattle.readers.specs.declared.listing.command.Command.{Command}
 use Rattle.readers.specs.declared.listing.command.Command.TheVariants.{Stop, Pass, Take, Give}
 use Rattle.readers.specs.declared.listing.fault.Wrong.{Wrong}
 use Rattle.readers.specs.declared.listing.fault.Wrong.TheVariants.{UnknownCommand, CutOff, UnknownLock}
-use Rattle.readers.specs.Bytes.{first, by_kind, with_lock, with_target, with_targets, locks}
+use Rattle.readers.specs.Bytes.{first, by_kind, with_lock, with_target, with_targets}
 use Rattle.readers.specs.Flow.{most}
 use Rattle.readers.specs.Reading.{highest}
 use Rattle.readers.specs.Refusals.{operands, WrongThere}
@@ -26,8 +27,8 @@ short b more known cut = fails (b ∷ more) CutOff (λ n small. (small, (b, more
 lock_fails : (make : ℕ → Command) (b : ℕ) (bs : List ℕ) → (b ≡ 2) ⊎ (b ≡ 3) → b ≤ highest → operands b ≡ 1 → Fails (b ∷ bs) (with_lock make bs)
 lock_fails make b [] kind known one = short b [] known (omega arith)
 lock_fails make b (k ∷ bs) kind known one =
-    cond_both (ltb k locks) _ _ (Fails (b ∷ k ∷ bs)) (λ _. reads _ (make k))
-    (λ out. fails (b ∷ k ∷ bs) UnknownLock (λ n small. (small, (b, k, bs, refl, kind, ltb-false k locks out))))
+    cond_both (ltb k lock_limit) _ _ (Fails (b ∷ k ∷ bs)) (λ _. reads _ (make k))
+    (λ out. fails (b ∷ k ∷ bs) UnknownLock (λ n small. (small, (b, k, bs, refl, kind, ltb-false k lock_limit out))))
 
 target_fails : (b : ℕ) (bs : List ℕ) → b ≤ highest → operands b ≡ 2 → Fails (b ∷ bs) (with_target bs)
 target_fails b [] known two = short b [] known (omega arith)

@@ -3,11 +3,12 @@ use Rattle.std.specs.Prelude.{◌≡◌, ℕ, ◌+◌, ◌*◌, ◌/◌, ◌%◌
 use Rattle.std.proofs.Common.{ap, subst, ◌∙◌, arith, length-append}
 use Rattle.std.specs.List.{AllByRecursion}
 use Rattle.std.proofs.lemmas.Bool.{cond-true, lt-ltb, and_parts}
+use Rattle.locks.specs.Limits.{lock_limit}
 use Rattle.readers.specs.declared.listing.command.Command.{Command}
 use Rattle.readers.specs.declared.listing.command.Command.TheVariants.{Stop, Pass, Take, Give, Goto, Either}
 use Rattle.readers.specs.declared.listing.fault.ListingFault.{ListingFault}
 use Rattle.readers.specs.declared.listing.fault.Wrong.TheVariants.{RunsOffTheEnd}
-use Rattle.readers.specs.Bytes.{first, width, locks}
+use Rattle.readers.specs.Bytes.{first, width}
 use Rattle.readers.specs.Encoding.{written, encode, LockIsKnown, WellFormed, ListingsAreTheirCommands}
 use Rattle.readers.specs.Faults.{fault}
 use Rattle.readers.specs.Flow.{most, inside, goes_on, end_at, flow, all_lead_inside, stops_at_the_end}
@@ -22,8 +23,8 @@ use Rattle.readers.specs.FormLaws.{all_inside, stopped, well_formed}
 pub first_written : (c : Command) (rest : List ℕ) → LockIsKnown c → first highest (written c ++ rest) ≡ Ok c
 first_written Stop rest h = refl
 first_written Pass rest h = refl
-first_written (Take k) rest h = cond-true _ _ _ (lt-ltb k locks h)
-first_written (Give k) rest h = cond-true _ _ _ (lt-ltb k locks h)
+first_written (Take k) rest h = cond-true _ _ _ (lt-ltb k lock_limit h)
+first_written (Give k) rest h = cond-true _ _ _ (lt-ltb k lock_limit h)
 first_written (Goto t) rest h =
     let is : 256 * (t / 256) + t % 256 ≡ t = omega arith in
     ap (λ x. Ok (Goto x)) is

@@ -2,11 +2,12 @@
 use Rattle.std.proofs.Common.{◌≡◌, ℕ, zero, suc, ◌+◌, ◌<◌, ◌≤◌, ◌⊎◌, List, [], ◌∷◌, ◌++◌, length, Ok, Err, Result, sym, refl, ap, ◌∙◌, subst, inl, inr, append_assoc, arith, length-append}
 use Rattle.std.specs.List.{AllByRecursion}
 use Rattle.std.proofs.lemmas.Bool.{cond-true, cond-false, lt-ltb, le-ltb}
+use Rattle.locks.specs.Limits.{lock_limit}
 use Rattle.readers.specs.declared.listing.command.Command.{Command}
 use Rattle.readers.specs.declared.listing.fault.Wrong.{Wrong}
 use Rattle.readers.specs.declared.listing.fault.Wrong.TheVariants.{NoBytes, TooManyCommands, UnknownCommand, CutOff, UnknownLock, MissingTarget, RunsOffTheEnd}
 use Rattle.readers.specs.declared.listing.fault.ListingFault.{ListingFault}
-use Rattle.readers.specs.Bytes.{first, width, locks}
+use Rattle.readers.specs.Bytes.{first, width}
 use Rattle.readers.specs.Encoding.{written, encode, LockIsKnown, LeadsInside}
 use Rattle.readers.specs.Faults.{fault}
 use Rattle.readers.specs.Flow.{most, flow}
@@ -120,9 +121,9 @@ cut_either (x ∷ y ∷ z ∷ u ∷ more) h = absurd (omega arith)
 cut : (b : ℕ) → b ≤ highest → Cut b
 cut = six Cut (λ more h. absurd (omega arith)) (λ more h. absurd (omega arith)) (cut_lock 2 refl refl) (cut_lock 3 refl refl) cut_goto cut_either
 
-bad_lock : (b k : ℕ) (more : List ℕ) → (b ≡ 2) ⊎ (b ≡ 3) → locks ≤ k → first highest (b ∷ k ∷ more) ≡ Err UnknownLock
-bad_lock b k more (inl e) h = ap (λ x. first highest (x ∷ k ∷ more)) e ∙ cond-false _ _ _ (le-ltb k locks h)
-bad_lock b k more (inr e) h = ap (λ x. first highest (x ∷ k ∷ more)) e ∙ cond-false _ _ _ (le-ltb k locks h)
+bad_lock : (b k : ℕ) (more : List ℕ) → (b ≡ 2) ⊎ (b ≡ 3) → lock_limit ≤ k → first highest (b ∷ k ∷ more) ≡ Err UnknownLock
+bad_lock b k more (inl e) h = ap (λ x. first highest (x ∷ k ∷ more)) e ∙ cond-false _ _ _ (le-ltb k lock_limit h)
+bad_lock b k more (inr e) h = ap (λ x. first highest (x ∷ k ∷ more)) e ∙ cond-false _ _ _ (le-ltb k lock_limit h)
 
 whole_refusal : (bs : List ℕ) (cs : List Command) → WholeRun bs cs → refusal bs ≡ flow (length cs) (Ok tt) 0 cs
 whole_refusal bs cs w = ap refusal w.whole ∙ refusal_encode cs w.some w.few w.locks_known

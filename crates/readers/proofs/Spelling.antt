@@ -2,19 +2,20 @@
 use Rattle.std.specs.Prelude.{◌≡◌, ℕ, ◌+◌, ◌*◌, ◌<◌, ◌≤◌, List, [], ◌∷◌, length, Ok, Err, Result, ◌==◌, nat_lt, refl}
 use Rattle.std.proofs.Common.{ap, subst, arith}
 use Rattle.std.proofs.lemmas.Bool.{cond_both, eqb-true, ltb-true}
+use Rattle.locks.specs.Limits.{lock_limit}
 use Rattle.readers.specs.declared.listing.command.Command.{Command}
 use Rattle.readers.specs.declared.listing.command.Command.TheVariants.{Stop, Pass, Take, Give, Goto, Either}
 use Rattle.readers.specs.declared.listing.fault.Wrong.{Wrong}
 use Rattle.readers.specs.declared.listing.fault.Wrong.TheVariants.{UnknownCommand, CutOff, UnknownLock}
-use Rattle.readers.specs.Bytes.{first, by_kind, with_lock, with_target, with_targets, width, locks}
+use Rattle.readers.specs.Bytes.{first, by_kind, with_lock, with_target, with_targets, width}
 use Rattle.readers.specs.Reading.{highest}
 
 -- the bytes begin with the command c
 abbrev pub Spelt : List ℕ → Command → Type 0
 Spelt bs Stop = (rest : List ℕ) × (bs ≡ 0 ∷ rest)
 Spelt bs Pass = (rest : List ℕ) × (bs ≡ 1 ∷ rest)
-Spelt bs (Take k) = (rest : List ℕ) × (bs ≡ 2 ∷ k ∷ rest) × (k < locks)
-Spelt bs (Give k) = (rest : List ℕ) × (bs ≡ 3 ∷ k ∷ rest) × (k < locks)
+Spelt bs (Take k) = (rest : List ℕ) × (bs ≡ 2 ∷ k ∷ rest) × (k < lock_limit)
+Spelt bs (Give k) = (rest : List ℕ) × (bs ≡ 3 ∷ k ∷ rest) × (k < lock_limit)
 Spelt bs (Goto t) = (rest : List ℕ) × (h : ℕ) × (l : ℕ) × (bs ≡ 4 ∷ h ∷ l ∷ rest) × (t ≡ 256 * h + l)
 Spelt bs (Either t u) =
     (rest : List ℕ) × (h : ℕ) × (l : ℕ) × (k : ℕ) × (m : ℕ) × (bs ≡ 5 ∷ h ∷ l ∷ k ∷ m ∷ rest) × (t ≡ 256 * h + l) × (u ≡ 256 * k + m)
@@ -28,10 +29,10 @@ refused bs w c e = cc
 read : (bs : List ℕ) (d : Command) → Spelt bs d → Reads bs (Ok d)
 read bs d s c e = let same : d ≡ c = cc in subst (Spelt bs) same s
 
-lock_after : (make : ℕ → Command) (b : ℕ) (bs : List ℕ) → ((k : ℕ) (rest : List ℕ) → k < locks → Spelt (b ∷ k ∷ rest) (make k)) → Reads (b ∷ bs) (with_lock make bs)
+lock_after : (make : ℕ → Command) (b : ℕ) (bs : List ℕ) → ((k : ℕ) (rest : List ℕ) → k < lock_limit → Spelt (b ∷ k ∷ rest) (make k)) → Reads (b ∷ bs) (with_lock make bs)
 lock_after make b [] is = refused _ CutOff
 lock_after make b (k ∷ bs) is =
-    cond_both (nat_lt k locks) _ _ (Reads (b ∷ k ∷ bs)) (λ y. read _ (make k) (is k bs (ltb-true k locks y))) (λ _. refused _ UnknownLock)
+    cond_both (nat_lt k lock_limit) _ _ (Reads (b ∷ k ∷ bs)) (λ y. read _ (make k) (is k bs (ltb-true k lock_limit y))) (λ _. refused _ UnknownLock)
 
 goto_target : (b : ℕ) (bs : List ℕ) → b ≡ 4 → Reads (b ∷ bs) (with_target bs)
 goto_target b [] t = refused _ CutOff

@@ -16,9 +16,9 @@ use Rattle.locks.specs.Graphs.{Graph, Bounded, StepFits, locations, steps_at, st
 use Rattle.locks.specs.Limits.{most_locations, most_steps}
 use Rattle.locks.specs.Steps.{kind_number}
 use Rattle.readers.specs.declared.table.record.Record.{Record}
-use Rattle.readers.specs.Records.{Fits, Spells, TableSays, record_of, records_at}
+use Rattle.readers.specs.Records.{Fits, Spells, RowsSay, TableSays, record_of, records_at}
 use Rattle.readers.specs.declared.table.row.Row.{Row}
-use Rattle.readers.specs.Rows.{RowsSay, row_steps, rows_steps}
+use Rattle.readers.specs.Rows.{row_steps, rows_steps}
 use Rattle.readers.specs.Tables.{TablesSayOneGraph}
 use Rattle.readers.specs.TableRefusals.{AllFit, AllFew, CountFits, FirstTooMany, TableAnswers}
 
@@ -95,14 +95,14 @@ enter n rs steps r s fits is say =
     }
 
 pub table_said : (n start : ℕ) (rs : List Record) (steps : List (List Step)) → RowsSay n rs steps → TableSays n start rs (record { start = start; steps = steps })
-table_said n start rs steps say = record { locations_are = say.locations_are; start_is = refl; steps_are = say.steps_are }
+table_said n start rs steps say = record { start_is = refl; rows = say }
 
 -- the graph of a whole table is within the bounds
 
 few_there : (n start : ℕ) (rs : List Record) (G : Graph) → AllFew rs → TableSays n start rs G → (l : ℕ) → length (steps_at G l) ≤ most_steps
 few_there n start rs G few t l =
     let long = length-map (steps_at G l) (record_of l) in
-    let same = ap length (t.steps_are l) in
+    let same = ap length (t.rows.steps_are l) in
     let low = few l in
     omega arith
 
@@ -110,14 +110,14 @@ step_fits : (n start : ℕ) (rs : List Record) (G : Graph) → AllFit n rs → T
 step_fits n start rs G fit t l i s e =
     let within = slice_get_within (steps_at G l) i s e in
     let long = length-map (steps_at G l) (record_of l) in
-    let same = ap length (t.steps_are l) in
+    let same = ap length (t.rows.steps_are l) in
     let there : slice_get (map (record_of l) (steps_at G l)) i ≡ Some (record_of l s) =
     slice_get-map (record_of l) (steps_at G l) i ∙ ap (λ o. option_map (record_of l) o) e in
     let it : get_or (records_at l rs) i (record_of l s) ≡ record_of l s =
-    get_or_from_slice_get (records_at l rs) i (record_of l s) (record_of l s) (ap (λ xs. slice_get xs i) (sym (t.steps_are l)) ∙ there) in
+    get_or_from_slice_get (records_at l rs) i (record_of l s) (record_of l s) (ap (λ xs. slice_get xs i) (sym (t.rows.steps_are l)) ∙ there) in
     let kept = All-filter (λ r. eqb r.from l) (Fits n) rs fit in
     let fits : Fits n (record_of l s) = subst (Fits n) it (kept i (record_of l s) (omega arith)) in
-    let many = t.locations_are in
+    let many = t.rows.locations_are in
     let to = fits.to_there in
     record {
       target_there = omega arith;
@@ -127,7 +127,7 @@ step_fits n start rs G fit t l i s e =
 
 pub bounded : (n start : ℕ) (rs : List Record) (G : Graph) → CountFits n → start < n → AllFit n rs → AllFew rs → TableSays n start rs G → Bounded G
 bounded n start rs G count low fit few t =
-    let many = t.locations_are in
+    let many = t.rows.locations_are in
     let begin = t.start_is in
     let some = count.some in
     let less = count.few in
@@ -205,8 +205,8 @@ same_steps l (x ∷ xs) (y ∷ ys) e =
 one_graph : (n start : ℕ) (rs : List Record) (G H : Graph) → TableSays n start rs G → TableSays n start rs H → G ≡ H
 one_graph n start rs G H t u =
     let starts = t.start_is ∙ sym u.start_is in
-    let steps = ext_get_or [] G.steps H.steps (t.locations_are ∙ sym u.locations_are)
-    (λ l h. same_steps l (steps_at G l) (steps_at H l) (t.steps_are l ∙ sym (u.steps_are l))) in
+    let steps = ext_get_or [] G.steps H.steps (t.rows.locations_are ∙ sym u.rows.locations_are)
+    (λ l h. same_steps l (steps_at G l) (steps_at H l) (t.rows.steps_are l ∙ sym (u.rows.steps_are l))) in
     ap (λ s. record { start = s; steps = G.steps }) starts ∙ ap (λ ss. record { start = H.start; steps = ss }) steps
 
 -- a table of which a graph within the bounds is what it says is accepted
@@ -245,7 +245,7 @@ location_there G l i s e =
 record_fits : (n start : ℕ) (rs : List Record) (G : Graph) → TableSays n start rs G → Bounded G → (l i : ℕ) (s : Step) → step_at G l i ≡ Some s → Fits n (record_of l s)
 record_fits n start rs G t b l i s e =
     let fits = b.steps_fit l i s e in
-    let many = t.locations_are in
+    let many = t.rows.locations_are in
     let low = location_there G l i s e in
     let to = fits.target_there in
     record {
@@ -258,15 +258,15 @@ record_fits n start rs G t b l i s e =
 
 accepted : (n start : ℕ) (rs : List Record) (G : Graph) → TableSays n start rs G → Bounded G → TableAnswers n start rs (Ok tt)
 accepted n start rs G t b =
-    let many = t.locations_are in
+    let many = t.rows.locations_are in
     let begin = t.start_is in
     let some = b.not_empty in
     let less = b.few_locations in
     let there = b.start_there in (
       record { some = omega arith; few = omega arith },
       (let low : start < n = omega arith in low),
-      (λ i d h. unfiltered (Fits n) (get_or rs i d).from rs (subst (All (Fits n)) (t.steps_are (get_or rs i d).from) (all_map (Fits n) (record_of (get_or rs i d).from) (steps_at G (get_or rs i d).from) (λ j s e. record_fits n start rs G t b (get_or rs i d).from j s e))) i d h refl),
-      (λ l. let long = length-map (steps_at G l) (record_of l) in let same = ap length (t.steps_are l) in let few = b.few_steps l in omega arith),
+      (λ i d h. unfiltered (Fits n) (get_or rs i d).from rs (subst (All (Fits n)) (t.rows.steps_are (get_or rs i d).from) (all_map (Fits n) (record_of (get_or rs i d).from) (steps_at G (get_or rs i d).from) (λ j s e. record_fits n start rs G t b (get_or rs i d).from j s e))) i d h refl),
+      (λ l. let long = length-map (steps_at G l) (record_of l) in let same = ap length (t.rows.steps_are l) in let few = b.few_steps l in omega arith),
     )
 
 pub tables_say_one_graph : TablesSayOneGraph

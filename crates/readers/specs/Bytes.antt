@@ -7,17 +7,13 @@ use Rattle.readers.specs.declared.listing.command.Command.TheVariants.{Stop, Pas
 use Rattle.readers.specs.declared.listing.fault.Wrong.{Wrong}
 use Rattle.readers.specs.declared.listing.fault.Wrong.TheVariants.{NoBytes, UnknownCommand, CutOff, UnknownLock}
 
--- how many locks there are
-abbrev pub locks : ℕ
-locks = lock_limit
-
 abbrev pub lock_or : ℕ → Result ℕ Wrong
-lock_or k = cond (nat_lt k locks) (Ok k) (Err UnknownLock)
+lock_or k = cond (nat_lt k lock_limit) (Ok k) (Err UnknownLock)
 
 -- the operands after each command byte
 abbrev pub with_lock : (ℕ → Command) → List ℕ → Result Command Wrong
 with_lock make [] = Err CutOff
-with_lock make (k ∷ bs) = cond (nat_lt k locks) (Ok (make k)) (Err UnknownLock)
+with_lock make (k ∷ bs) = cond (nat_lt k lock_limit) (Ok (make k)) (Err UnknownLock)
 
 abbrev pub with_target : List ℕ → Result Command Wrong
 with_target [] = Err CutOff

@@ -1,9 +1,9 @@
 -- Listings in the subject's words: how commands are written, and which runs of commands are well formed.
 use Rattle.std.specs.Prelude.{◌≡◌, ℕ, ◌/◌, ◌%◌, ◌<◌, ◌≤◌, List, [], ◌∷◌, ◌++◌, length, Ok}
 use Rattle.std.specs.List.{flat_map, AllByRecursion}
+use Rattle.locks.specs.Limits.{lock_limit}
 use Rattle.readers.specs.declared.listing.command.Command.{Command}
 use Rattle.readers.specs.declared.listing.command.Command.TheVariants.{Stop, Pass, Take, Give, Goto, Either}
-use Rattle.readers.specs.Bytes.{locks}
 use Rattle.readers.specs.Flow.{most}
 use Rattle.readers.specs.Reading.{listing}
 
@@ -27,8 +27,8 @@ encode cs = flat_map written cs
 abbrev pub LockIsKnown : Command → Type 0
 LockIsKnown Stop = Unit {0}
 LockIsKnown Pass = Unit {0}
-LockIsKnown (Take k) = k < locks
-LockIsKnown (Give k) = k < locks
+LockIsKnown (Take k) = k < lock_limit
+LockIsKnown (Give k) = k < lock_limit
 LockIsKnown (Goto t) = Unit {0}
 LockIsKnown (Either t u) = Unit {0}
 

@@ -1,11 +1,11 @@
 -- Where the commands of a run lead.
 use Rattle.std.specs.Prelude.{ℕ, ◌+◌, Bool, true, false, cond, not, ◌&&◌, List, [], ◌∷◌, length, Ok, Err, Result, nat_le, nat_lt}
-use Rattle.locks.specs.Limits.{most_locations}
+use Rattle.locks.specs.Limits.{lock_limit, most_locations}
 use Rattle.readers.specs.declared.listing.command.Command.{Command}
 use Rattle.readers.specs.declared.listing.command.Command.TheVariants.{Stop, Pass, Take, Give, Goto, Either}
 use Rattle.readers.specs.declared.listing.fault.Wrong.TheVariants.{MissingTarget, RunsOffTheEnd}
 use Rattle.readers.specs.declared.listing.fault.ListingFault.{ListingFault}
-use Rattle.readers.specs.Bytes.{locks, width}
+use Rattle.readers.specs.Bytes.{width}
 use Rattle.readers.specs.Faults.{fault}
 
 -- a listing has at most so many commands
@@ -34,8 +34,8 @@ goes_on (Either t u) = false
 abbrev pub command_lock_known : Command → Bool
 command_lock_known Stop = true
 command_lock_known Pass = true
-command_lock_known (Take k) = nat_lt k locks
-command_lock_known (Give k) = nat_lt k locks
+command_lock_known (Take k) = nat_lt k lock_limit
+command_lock_known (Give k) = nat_lt k lock_limit
 command_lock_known (Goto t) = true
 command_lock_known (Either t u) = true
 

@@ -5,9 +5,9 @@ use Rattle.std.specs.List.{AllByRecursion}
 use Rattle.std.proofs.lemmas.Bool.{le-leb, leb-true, and_from, and_parts}
 use Rattle.std.proofs.lemmas.Bool.Decides.{Decides-ltb, Decides-and}
 use Rattle.std.proofs.ByRecursion.{Decides-by_and}
+use Rattle.locks.specs.Limits.{lock_limit}
 use Rattle.readers.specs.declared.listing.command.Command.{Command}
 use Rattle.readers.specs.declared.listing.command.Command.TheVariants.{Stop, Pass, Take, Give, Goto, Either}
-use Rattle.readers.specs.Bytes.{locks}
 use Rattle.readers.specs.Encoding.{LockIsKnown, LeadsInside, MayEnd, WellFormed}
 use Rattle.readers.specs.Flow.{most, inside, goes_on, command_lock_known, all_lead_inside, all_locks_known, stops_at_the_end, is_well_formed}
 
@@ -15,8 +15,8 @@ use Rattle.readers.specs.Flow.{most, inside, goes_on, command_lock_known, all_le
 pub knows_lock : (c : Command) → Decides (command_lock_known c) (LockIsKnown c)
 knows_lock Stop = (λ _. tt, λ _. refl)
 knows_lock Pass = (λ _. tt, λ _. refl)
-knows_lock (Take k) = Decides-ltb k locks
-knows_lock (Give k) = Decides-ltb k locks
+knows_lock (Take k) = Decides-ltb k lock_limit
+knows_lock (Give k) = Decides-ltb k lock_limit
 knows_lock (Goto t) = (λ _. tt, λ _. refl)
 knows_lock (Either t u) = (λ _. tt, λ _. refl)
 

@@ -1,7 +1,7 @@
 -- Edge tables in the subject's words: what a record spells, and what a list of them says.
-use Rattle.std.specs.Prelude.{◌≡◌, ℕ, ◌<◌, ◌≤◌, List, map, filter, Some, None, Option, ◌==◌}
+use Rattle.std.specs.Prelude.{◌≡◌, ℕ, ◌<◌, ◌≤◌, List, [], map, length, filter, Some, None, Option, slice_index_or, ◌==◌}
 use Rattle.locks.specs.declared.steps.Step.{Step}
-use Rattle.locks.specs.Graphs.{Graph, locations, steps_at}
+use Rattle.locks.specs.Graphs.{Graph}
 use Rattle.locks.specs.Limits.{lock_limit}
 use Rattle.locks.specs.Steps.{kind_number}
 use Rattle.readers.specs.declared.table.record.Record.{Record}
@@ -27,8 +27,12 @@ Spells n r None = Fits n r → ⊥
 abbrev pub records_at : ℕ → List Record → List Record
 records_at l rs = filter (λ r. r.from == l) rs
 
--- what a table says of a graph: the steps of each location, written as records, are its records in list order
+-- what records say of the steps of n locations: those of each, written as records, are its records in list order
+pub record RowsSay (n : ℕ) (rs : List Record) (steps : List (List Step)) : Type 0 where
+  pub locations_are : length steps ≡ n
+  pub steps_are : (l : ℕ) → map (record_of l) (slice_index_or steps l []) ≡ records_at l rs
+
+-- what a table says of a graph
 pub record TableSays (n start : ℕ) (rs : List Record) (G : Graph) : Type 0 where
-  pub locations_are : locations G ≡ n
   pub start_is : G.start ≡ start
-  pub steps_are : (l : ℕ) → map (record_of l) (steps_at G l) ≡ records_at l rs
+  pub rows : RowsSay n rs G.steps

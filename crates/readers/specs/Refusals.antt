@@ -1,11 +1,11 @@
 -- Why bytes are refused, in the subject's words.
 use Rattle.std.specs.Prelude.{◌≡◌, ℕ, ◌<◌, ◌≤◌, cond, ◌⊎◌, List, [], ◌∷◌, ◌++◌, length, Err, ◌==◌, nat_lt}
 use Rattle.std.specs.List.{AllByRecursion}
+use Rattle.locks.specs.Limits.{lock_limit}
 use Rattle.readers.specs.declared.listing.command.Command.{Command}
 use Rattle.readers.specs.declared.listing.fault.Wrong.{Wrong}
 use Rattle.readers.specs.declared.listing.fault.Wrong.TheVariants.{NoBytes, TooManyCommands, UnknownCommand, CutOff, UnknownLock, MissingTarget, RunsOffTheEnd}
 use Rattle.readers.specs.declared.listing.fault.ListingFault.{ListingFault}
-use Rattle.readers.specs.Bytes.{locks}
 use Rattle.readers.specs.Encoding.{encode, LockIsKnown, LeadsInside, MayEnd}
 use Rattle.readers.specs.Flow.{most}
 use Rattle.readers.specs.Reading.{highest, listing}
@@ -20,7 +20,7 @@ WrongThere NoBytes n rest = ⊥
 WrongThere TooManyCommands n rest = (n ≡ most) × (0 < length rest)
 WrongThere UnknownCommand n rest = (n < most) × ((b : ℕ) × (more : List ℕ) × (rest ≡ b ∷ more) × (highest < b))
 WrongThere CutOff n rest = (n < most) × ((b : ℕ) × (more : List ℕ) × (rest ≡ b ∷ more) × (b ≤ highest) × (length more < operands b))
-WrongThere UnknownLock n rest = (n < most) × ((b : ℕ) × (k : ℕ) × (more : List ℕ) × (rest ≡ b ∷ k ∷ more) × ((b ≡ 2) ⊎ (b ≡ 3)) × (locks ≤ k))
+WrongThere UnknownLock n rest = (n < most) × ((b : ℕ) × (k : ℕ) × (more : List ℕ) × (rest ≡ b ∷ k ∷ more) × ((b ≡ 2) ⊎ (b ≡ 3)) × (lock_limit ≤ k))
 WrongThere MissingTarget n rest = ⊥
 WrongThere RunsOffTheEnd n rest = ⊥
 

@@ -1,10 +1,8 @@
 -- The steps of a graph by location, as a place of a table keeps them.
-use Rattle.std.specs.Prelude.{◌≡◌, ℕ, List, [], map, take, length, replicate, slice_index_or}
+use Rattle.std.specs.Prelude.{ℕ, List, [], map, take, replicate}
 use Rattle.locks.specs.declared.steps.Step.{Step}
 use Rattle.locks.specs.Graphs.{Graph}
-use Rattle.readers.specs.declared.table.record.Record.{Record}
 use Rattle.readers.specs.declared.table.row.Row.{Row}
-use Rattle.readers.specs.Records.{record_of, records_at}
 
 abbrev pub row_steps : Row → List Step
 row_steps r = take r.count r.steps
@@ -18,8 +16,3 @@ rows_graph start rows = record { start = start; steps = rows_steps rows }
 -- n locations, each without steps
 abbrev pub bare : ℕ → List (List Step)
 bare n = replicate n []
-
--- the steps that the records say, by location
-pub record RowsSay (n : ℕ) (rs : List Record) (steps : List (List Step)) : Type 0 where
-  pub locations_are : length steps ≡ n
-  pub steps_are : (l : ℕ) → map (record_of l) (slice_index_or steps l []) ≡ records_at l rs

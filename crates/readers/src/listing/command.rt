@@ -18,7 +18,7 @@ pub enum Command {
 
 impl Command {
     // Each target is one of `count` commands.
-    pub fn leads_inside(self, count: usize) -> bool
+    pub(crate) fn leads_inside(self, count: usize) -> bool
         ensures { result ≡ inside count self }
     {
         match self {
@@ -30,7 +30,7 @@ impl Command {
     }
 
     // The command leads on to the next one.
-    pub fn goes_on(self) -> bool
+    pub(crate) fn goes_on(self) -> bool
         ensures { result ≡ goes_on self }
     {
         match self {

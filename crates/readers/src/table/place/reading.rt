@@ -2,7 +2,8 @@
 ghost use Rattle.std.specs.Prelude.{◌≡◌, ◌≤◌, vec_capacity, IfOk};
 ghost use Rattle.locks.specs.Limits.{most_locations};
 ghost use Rattle.readers.specs.contracts.table.place.questions.EdgeTableThreadGraph.TheImpl.{ghosts as table_ghosts};
-ghost use Rattle.readers.specs.Rows.{bare, rows_steps, RowsSay};
+ghost use Rattle.readers.specs.Records.{RowsSay};
+ghost use Rattle.readers.specs.Rows.{bare, rows_steps};
 ghost use Rattle.readers.specs.Tables.{bare_graph, TableReads};
 ghost use Rattle.readers.specs.TableRefusals.{AllFit, AllFew};
 

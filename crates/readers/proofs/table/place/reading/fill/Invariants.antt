@@ -1,5 +1,6 @@
 use Rattle.std.proofs.Common.{◌≡◌, vec_capacity, take}
-use Rattle.readers.specs.Rows.{rows_steps, RowsSay}
+use Rattle.readers.specs.Records.{RowsSay}
+use Rattle.readers.specs.Rows.{rows_steps}
 use Rattle.readers.proofs.table.place.reading.fill.Given as goal
 
 abbrev pub invariant-loop-record : goal.invariant-loop-record
