@@ -3,5 +3,7 @@ mod asks;
 mod making;
 mod printing;
 mod telling;
+#[cfg(test)]
+mod tests;
 
 pub use making::report;

@@ -1,14 +1,35 @@
-// Reads worked listings, and prints the report of a worked file.
+// Reads worked listings, and prints the reports of worked files.
 #![tactic(auto)]
 
 use readers::listing::Listing;
+use review::lines::Line;
 use review::report::report;
+use search::threads::Pair;
 use std::io::Write;
 
 // Two threads, and three pairs.
 const FILE: [u8; 36] = [
     0x10, 0, 7, 0x02, 0, 0x02, 1, 0x03, 1, 0x00, 0x11, 0, 7, 0x02, 1, 0x02, 0, 0x03, 0, 0x00, 0x12,
     0, 3, 0, 1, 0x12, 0, 3, 0, 3, 0x12, 0, 9, 0, 0, 0x1f,
+];
+
+// Both threads have one location, and a pair stands in front of a renaming.
+const RENAME_BEHIND_A_PAIR: [u8; 14] = [0x10, 0, 1, 0x00, 0x11, 0, 1, 0x00, 0x12, 0, 0, 0, 0, 0x13];
+
+const BYTE_BEHIND_END: [u8; 10] = [0x10, 0, 1, 0x00, 0x11, 0, 1, 0x00, 0x1f, 0];
+
+const NAME_TWICE: [u8; 18] = [
+    0x10, 0, 1, 0x00, 0x11, 0, 1, 0x00, 0x13, 3, 3, 1, 2, 4, 5, 6, 7, 0x1f,
+];
+
+// Lock 0 is given back before lock 1, which was taken after it.
+const OUTER_GIVEN_FIRST: [u8; 15] = [
+    0x10, 0, 7, 0x02, 0, 0x02, 1, 0x03, 0, 0x00, 0x11, 0, 1, 0x00, 0x1f,
+];
+
+// The right thread takes five locks.
+const FIVE_TAKEN: [u8; 19] = [
+    0x10, 0, 1, 0x00, 0x11, 0, 11, 0x02, 0, 0x02, 1, 0x02, 2, 0x02, 3, 0x02, 4, 0x00, 0x1f,
 ];
 
 fn main(rt: HostRuntime) -> anyhow::Result<()> {
@@ -23,15 +44,48 @@ fn run(rt: &HostRuntime) -> anyhow::Result<()> {
     read(rt, "pass", &[0x01])?;
     read(rt, "512 stops", &[0x00; 512])?;
     read(rt, "513 stops", &[0x00; 513])?;
-    let text = report(rt.alloc(), &FILE)?;
-    rt.stdout().write_all(&text)?;
-    Ok(())
+    read(rt, "no bytes", &[])?;
+    read(rt, "another byte", &[0x00, 0x06])?;
+    read(rt, "take cut off", &[0x00, 0x02])?;
+    tell(rt, "two threads", &FILE)?;
+    tell(rt, "no bytes", &[])?;
+    tell(rt, "right first", &[0x11])?;
+    tell(rt, "section cut short", &[0x10, 0, 7, 0x02])?;
+    tell(rt, "section of no bytes", &[0x10, 0, 0])?;
+    tell(rt, "rename behind a pair", &RENAME_BEHIND_A_PAIR)?;
+    tell(rt, "byte behind end", &BYTE_BEHIND_END)?;
+    tell(rt, "name twice", &NAME_TWICE)?;
+    tell(rt, "outer given first", &OUTER_GIVEN_FIRST)?;
+    tell(rt, "five taken", &FIVE_TAKEN)?;
+    tell(rt, "32768 bytes", &[0x00; 32768])?;
+    tell(rt, "32769 bytes", &[0x00; 32769])?;
+    write(rt, "line of 10 bytes", &mut [0; 10])?;
+    write(rt, "line of 9 bytes", &mut [0; 9])
 }
 
 fn read(rt: &HostRuntime, name: &str, bytes: &[u8]) -> anyhow::Result<()> {
     let mut listing = Listing::new(rt.alloc())?;
     match listing.read(bytes) {
         Ok(()) => println!(rt; "{name}: read")?,
+        Err(fault) => println!(rt; "{name}: {}", fault.refusal())?,
+    }
+    Ok(())
+}
+
+// The report of a file, behind a line with its name.
+fn tell(rt: &HostRuntime, name: &str, file: &[u8]) -> anyhow::Result<()> {
+    println!(rt; "{name}:")?;
+    let text = report(rt.alloc(), file)?;
+    rt.stdout().write_all(&text)?;
+    Ok(())
+}
+
+fn write(rt: &HostRuntime, name: &str, space: &mut [u8]) -> anyhow::Result<()> {
+    let line = Line::Never {
+        pair: Pair { left: 3, right: 3 },
+    };
+    match line.write(space) {
+        Ok(count) => println!(rt; "{name}: {count}")?,
         Err(fault) => println!(rt; "{name}: {}", fault.refusal())?,
     }
     Ok(())
