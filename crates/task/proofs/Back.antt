@@ -10,7 +10,8 @@ use Rattle.task.specs.Spelled.{TaskValue, told, at_line, line_of, bytes, pair_of
 use Rattle.task.specs.Words.{byte_of, move_number}
 use Rattle.task.specs.Written.{byte_word, move_word, line_text, ending, written, Proper, WrittenReadsBack}
 use Rattle.task.proofs.Lines.{opens}
-use Rattle.task.proofs.Pieced.{Lacks, absent, lacks_if, cuts_piece, words_spaced, lines_last, lacks_line}
+use Rattle.task.specs.Reasons.{Lacks}
+use Rattle.task.proofs.Pieced.{absent, lacks_if, cuts_piece, words_spaced, lines_last, lacks_line}
 use Rattle.task.proofs.Spelling.{byte_back, byte_lacks, number_back, number_lacks, move_back, move_lacks, each_back}
 use Rattle.task.proofs.Stages.{all_lines}
 

@@ -5,3 +5,9 @@ pub mod Pieced
 pub mod Spelling
 pub mod Back
 pub mod Properly
+pub mod Said
+pub mod Several
+pub mod Cut
+pub mod Refusing
+pub mod Accepting
+pub mod Judged

@@ -6,10 +6,8 @@ use Rattle.std.proofs.lemmas.List.Elements.{recursion_from_All}
 use Rattle.std.specs.List.{AllByRecursion}
 use Rattle.task.specs.Left.{words_of}
 use Rattle.task.specs.Pieces.{onto, cuts, lines, words}
+use Rattle.task.specs.Reasons.{Lacks}
 use Rattle.task.specs.Written.{spaced, line_text, ending}
-
-abbrev pub Lacks : ℕ → List ℕ → Type 0
-Lacks at bs = AllByRecursion (λ b. b ≢ at) bs
 
 abbrev pub absent : ℕ → List ℕ → Bool
 absent at [] = true
@@ -26,7 +24,7 @@ pub cuts_piece : (at : ℕ) (last : List (List ℕ)) (w rest : List ℕ) → Lac
 cuts_piece at last [] rest h = cond-true _ _ _ (eq-eqb at at refl)
 cuts_piece at last (b ∷ w) rest h = cond-false _ _ _ (ne_eqb b at h.0) ∙ ap (onto b) (cuts_piece at last w rest h.1)
 
-words_alone : (w : List ℕ) → Lacks 32 w → words w ≡ w ∷ []
+pub words_alone : (w : List ℕ) → Lacks 32 w → words w ≡ w ∷ []
 words_alone [] h = refl
 words_alone (b ∷ w) h = cond-false _ _ _ (ne_eqb b 32 h.0) ∙ ap (onto b) (words_alone w h.1)
 
@@ -34,7 +32,7 @@ pub words_spaced : (w : List ℕ) (ws : List (List ℕ)) → Lacks 32 w → AllB
 words_spaced w [] h hs = ap words (append-nil w) ∙ words_alone w h
 words_spaced w (v ∷ vs) h hs = cuts_piece 32 ([] ∷ []) w (v ++ spaced vs) h ∙ ap (λ l. w ∷ l) (words_spaced v vs hs.0 hs.1)
 
-lines_alone : (b : ℕ) (w : List ℕ) → Lacks 10 (b ∷ w) → lines (b ∷ w) ≡ (b ∷ w) ∷ []
+pub lines_alone : (b : ℕ) (w : List ℕ) → Lacks 10 (b ∷ w) → lines (b ∷ w) ≡ (b ∷ w) ∷ []
 lines_alone b [] h = cond-false _ _ _ (ne_eqb b 10 h.0)
 lines_alone b (c ∷ w) h = cond-false _ _ _ (ne_eqb b 10 h.0) ∙ ap (onto b) (lines_alone c w h.1)
 

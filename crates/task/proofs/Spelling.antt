@@ -13,7 +13,7 @@ use Rattle.task.specs.Words.{number_of, hex_digit, byte_of, move_number}
 use Rattle.task.specs.Written.{hex_letter, byte_word, move_word}
 use Rattle.task.proofs.Digits.{number_is, own}
 use Rattle.task.proofs.Lines.{each_more}
-use Rattle.task.proofs.Pieced.{Lacks}
+use Rattle.task.specs.Reasons.{Lacks}
 
 -- bytes
 hex_back : (d : ℕ) → d < 16 → hex_digit (hex_letter d) ≡ Some d

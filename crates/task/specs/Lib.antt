@@ -1,8 +1,11 @@
+pub mod Accepted
 pub mod Faults
 pub mod Held
+pub mod Items
 pub mod Left
 pub mod Pieces
 pub mod Places
+pub mod Reasons
 pub mod Room
 pub mod Spelled
 pub mod Words

@@ -23,5 +23,7 @@ mod reading;
 mod tests;
 
 pub use fault::{TextFault, Wrong};
-pub use laws::written_tasks_read_back;
+pub use laws::{
+    accepted_texts_say_their_tasks, faults_have_their_reasons, written_tasks_read_back,
+};
 pub use place::Task;
