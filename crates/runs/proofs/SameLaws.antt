@@ -4,8 +4,9 @@ use Rattle.std.specs.List.{flat_map, slice_get}
 use Rattle.locks.specs.declared.together.Side.{Side}
 use Rattle.locks.specs.declared.together.Side.TheVariants.{Left, Right}
 use Rattle.locks.specs.Graphs.{Graph, Bounded}
-use Rattle.locks.specs.Shortest.{Judged, LeastLength, NoSchedule, SameStates}
-use Rattle.locks.proofs.LeastSum.{same_states_same_answer_lem}
+use Rattle.locks.specs.Shortest.{Judged, LeastLength, NoSchedule}
+use Rattle.locks.specs.Walks.{Distance}
+use Rattle.locks.proofs.LeastSum.{turned, same_states_same_answer_lem}
 use Rattle.search.specs.declared.entries.Entry.{Entry}
 use Rattle.search.specs.Sides.{BothThere}
 use Rattle.search.proofs.SummaryLaws.{accepted_not_refused}
@@ -140,13 +141,10 @@ said_again There Gone There' Gone' L R L' R' a b k has nor t t' none some (Err (
 said_again There Gone There' Gone' L R L' R' a b k has nor t t' none some (Ok Never) s = (has Left, has Right, t, none s.3)
 said_again There Gone There' Gone' L R L' R' a b k has nor t t' none some (Ok (Reached n)) s = (has Left, has Right, t, some n s.3, s.4)
 
-turned : (G H : Graph) → SameStates G H → SameStates H G
-turned G H s σ d = let p = s σ d in (p.1, p.0)
-
 pub same_states_same_answers : SameStatesSameAnswers
 same_states_same_answers G H G' H' cs cs' zs zs' ts ts' w w' k k' i j a b n L R L' R' r r' x y p q =
     let same = same_states_same_answer_lem L' R' L R (left_judged G' H' cs' zs' ts' w' k' j a b n L' R' r' y) (right_judged G' H' cs' zs' ts' w' k' j a b n L' R' r' y)
-    (left_judged G H cs zs ts w k i a b n L R r x) (right_judged G H cs zs ts w k i a b n L R r x) (turned L L' p) (turned R R' q) a b in
+    (left_judged G H cs zs ts w k i a b n L R r x) (right_judged G H cs zs ts w k i a b n L R r x) (turned (Distance L) (Distance L') p) (turned (Distance R) (Distance R') q) a b in
     sym (only G H cs zs ts w k i a b n L R r x r'
     (said_again _ (Lacks G H cs zs ts w k i a b n L R r x) (Has G' H' cs' zs' ts' w' k' j a b n L' R' r' y) _ L R L' R' a b n (ready_at G H cs zs ts w k i a b n L R r x) (lacking G' H' cs' zs' ts' w' k' j a b n L' R' r' y) x.both_there y.both_there
     same.1 same.0 r' (says G' H' cs' zs' ts' w' k' j a b n L' R' r' y)))
