@@ -11,7 +11,7 @@ use Rattle.locks.specs.declared.together.Configuration.{Configuration}
 use Rattle.locks.specs.Graphs.{Graph, step_at, locations}
 use Rattle.locks.specs.Moves.{move_named}
 use Rattle.locks.specs.Schedules.{Replays, Runs, from_starts, graph_of}
-use Rattle.locks.specs.Shortest.{Judged, LeastLength, NoSchedule}
+use Rattle.locks.specs.Shortest.{Judged, LeastLength, NoSchedule, Shortest}
 use Rattle.locks.specs.States.{State}
 use Rattle.locks.specs.Together.{position_of, advance}
 use Rattle.locks.specs.Held.{holds}
@@ -29,7 +29,7 @@ use Rattle.readers.specs.GraphLaws.{listing_bounded}
 use Rattle.readers.proofs.Laws.{listings}
 use Rattle.search.specs.declared.entries.Entry.{Entry}
 use Rattle.search.specs.Summaries.{state_in, ListedAt, Summary}
-use Rattle.worked_threads.specs.Worked.{Shortest, BothHold, CrossedHistories, NeverFor, AskRefuses, TwoAt}
+use Rattle.worked_threads.specs.Worked.{BothHold, CrossedHistories, NeverFor, AskRefuses, TwoAt}
 use Rattle.worked_threads.proofs.Summing.{count_test, count_answer}
 use Rattle.worked_threads.proofs.Tests.{implies, implies_says, every, every_says, some, some_says, on, on_says, same_state, state_says}
 
@@ -150,11 +150,16 @@ module _ {left right : List ℕ} {cs ds : List Command} {es fs : List Entry} (L 
       let G = listing_graph cs in
       let H = listing_graph ds in
       let p = and_parts (replay_test G H a b (from_starts G H) ns) (sums_test es fs a b (leb (length ns))) t in
-      record {
-        replays = replays G H a b ns p.0;
-        none_shorter = no_shorter G H (judged L) (judged R) a b (length ns) (λ σ τ d e x y agree.
-            leb-true (length ns) (d + e) (sums_say G H es fs (summary L) (summary R) a b (leb (length ns)) p.1 σ τ d e x y agree));
-      }
+      let r = replays G H a b ns p.0 in (
+        r,
+        record {
+          schedule = ns;
+          replays = r;
+          long = refl;
+          none_shorter = no_shorter G H (judged L) (judged R) a b (length ns) (λ σ τ d e x y agree.
+              leb-true (length ns) (d + e) (sums_say G H es fs (summary L) (summary R) a b (leb (length ns)) p.1 σ τ d e x y agree));
+        },
+      )
 
   pub never : sums_test es fs a b (λ n. false) ≡ true → NoSchedule (listing_graph cs) (listing_graph ds) a b
   never t =
@@ -280,7 +285,7 @@ too_short G H a b k ns s t =
       tt,
       tt,
       (ltb-true a (locations G) p.0, ltb-true b (locations H) q.0),
-      record { schedule = ns; replays = s.replays; long = refl; none_shorter = s.none_shorter },
+      s.1,
       ltb-true k (length ns) r.0,
     ) in
     record {
@@ -292,7 +297,7 @@ too_short G H a b k ns s t =
             only = λ x f. one_judgement (λ s. Unit {0}) (λ s. ⊥) G H a b (length list) (λ s n h. n) (Err (TooShort (length ns))) x here f;
             moves = tt;
             list = refl;
-            not_long = λ _ _ n l. let p = l.none_shorter ns s.replays in let q = leb-true (length ns) longest r.1 in omega arith;
+            not_long = λ _ _ n l. let p = l.none_shorter ns s.0 in let q = leb-true (length ns) longest r.1 in omega arith;
           };
       refusal = refl;
     }

@@ -1,14 +1,13 @@
 -- What the definitions yield for the worked threads.
-use Rattle.std.specs.Prelude.{◌≡◌, ◌≢◌, ℕ, true, ◌≤◌, ◌⊎◌, List, [], ◌∷◌, length, Some, Ok, Err}
+use Rattle.std.specs.Prelude.{◌≡◌, ◌≢◌, ℕ, true, ◌⊎◌, List, [], ◌∷◌, length, Some, Ok, Err}
 use Rattle.std.specs.List.{slice_get, AllByRecursion}
 use Rattle.locks.specs.declared.held.Held.{Held}
 use Rattle.locks.specs.declared.refusals.Part.TheVariants.{Summarise, Ask}
 use Rattle.locks.specs.declared.sets.LockSet.{LockSet}
 use Rattle.locks.specs.Graphs.{Graph}
-use Rattle.locks.specs.Schedules.{Replays}
 use Rattle.locks.specs.Held.{holds}
 use Rattle.locks.specs.Sets.{none, add, has}
-use Rattle.locks.specs.Shortest.{NoSchedule}
+use Rattle.locks.specs.Shortest.{NoSchedule, Shortest}
 use Rattle.locks.specs.States.{State}
 use Rattle.locks.specs.Walks.{Reached, Distance}
 use Rattle.pairs.specs.declared.answers.AskFault.{AskFault}
@@ -29,11 +28,6 @@ OfThread bytes P = (cs : List Command) × (listing bytes ≡ Ok cs) × P (listin
 
 abbrev pub OfThreads : List ℕ → List ℕ → (Graph → Graph → Type 0) → Type 0
 OfThreads left right P = OfThread left (λ G. OfThread right (λ H. P G H))
-
--- the schedule replays to the pair, and none that does is shorter
-pub record Shortest (G H : Graph) (a b : ℕ) (ns : List ℕ) : Type 0 where
-  pub replays : Replays G H a b ns
-  pub none_shorter : (ms : List ℕ) → Replays G H a b ms → length ns ≤ length ms
 
 -- both hold this lock
 abbrev pub BothHold : ℕ → State → State → Type 0
