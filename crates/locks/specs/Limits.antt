@@ -15,3 +15,7 @@ most_locations = 512
 
 abbrev pub most_steps : ℕ
 most_steps = 16
+
+-- the right thread's moves are numbered from here
+abbrev pub first_right : ℕ
+first_right = 256

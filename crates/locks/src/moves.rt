@@ -8,7 +8,7 @@ use crate::together::Side;
 use std::fmt;
 
 // The number of the right thread's first move.
-const FIRST_RIGHT: u16 = 256;
+pub const FIRST_RIGHT: u16 = 256;
 
 const LAST_CHOICE: u16 = MOST_STEPS as u16 - 1;
 
