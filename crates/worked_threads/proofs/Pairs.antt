@@ -28,7 +28,8 @@ use Rattle.readers.specs.Reading.{listing}
 use Rattle.readers.specs.GraphLaws.{listing_bounded}
 use Rattle.readers.proofs.Laws.{listings}
 use Rattle.search.specs.declared.entries.Entry.{Entry}
-use Rattle.search.specs.Summaries.{state_in, ListedAt, Summary}
+use Rattle.search.specs.Summaries.{state_in, Summary}
+use Rattle.search.proofs.SearchLaws.{EntryAt}
 use Rattle.worked_threads.specs.Worked.{BothHold, CrossedHistories, NeverFor, AskRefuses, TwoAt}
 use Rattle.worked_threads.proofs.Summing.{count_test, count_answer}
 use Rattle.worked_threads.proofs.Tests.{implies, implies_says, every, every_says, some, some_says, on, on_says, same_state, state_says}
@@ -120,7 +121,7 @@ abbrev pub sums_test : List Entry → List Entry → ℕ → ℕ → (ℕ → Bo
 sums_test es fs a b g =
     every (λ i e. every (λ j f. implies (agreeing_test a b (state_in e) (state_in f)) (g (e.distance + f.distance))) fs) es
 
-at_distance : (G : Graph) (es : List Entry) → Summary G es → (σ : State) (d : ℕ) → Distance G σ d → ListedAt es σ d
+at_distance : (G : Graph) (es : List Entry) → Summary G es → (σ : State) (d : ℕ) → Distance G σ d → EntryAt es σ d
 at_distance G es s σ d p =
     let l = s.all_reached σ (p.0.0, p.0.1) in
     let far = subst (λ x. Distance G x l.1.distance) l.3 (s.no_nearer l.0 l.1 l.2) in

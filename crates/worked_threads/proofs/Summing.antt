@@ -16,7 +16,7 @@ use Rattle.search.specs.Faults.{EntryFault, Least, place_of}
 use Rattle.search.specs.Searching.{Followed, Searched}
 use Rattle.search.specs.Summaries.{most_states, state_in, StartEntry, LaterEntry, Tree}
 use Rattle.search.specs.Summarising.{Summarised}
-use Rattle.search.proofs.SearchLaws.{all_apart, all_reached}
+use Rattle.search.proofs.SearchLaws.{all_apart, all_reached, listed_lists}
 use Rattle.search.proofs.SummaryLaws.{says_ok, refused_nesting, refused_depth, one_answer}
 use Rattle.worked_threads.specs.Worked.{Counts, Refuses}
 use Rattle.worked_threads.proofs.Tests.{implies, implies_says, every, every_says, some, some_says, on, on_says, same_state, state_says, says_state}
@@ -143,7 +143,7 @@ module _ (G : Graph) (es : List Entry) (test : search_test G es ≡ true) where
       let r = some_says near es (onward_says (alone l.step (state_in e)) (near_test es e) τ t l.taken) in
       let f = r.1 in
       let p = and_parts (same_state (state_in f) τ) (leb f.distance (e.distance + 1)) r.3 in
-      (f.distance, (r.0, f, r.2, state_says (state_in f) τ p.0, refl), leb-true f.distance (e.distance + 1) p.1)
+      (f.distance, listed_lists es τ f.distance (r.0, f, r.2, state_says (state_in f) τ p.0, refl), leb-true f.distance (e.distance + 1) p.1)
 
   tree : Tree G es
   tree =
