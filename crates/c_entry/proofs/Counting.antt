@@ -16,7 +16,7 @@ by_moves moves before after n few (inr t) = let is : n ≡ length moves = (let s
 by_ask : (G H : Graph) (p : Pair) (before after : List ℕ) (n : ℕ) → length before < 2 ^ 64 → PairSays G H p before (Ok (Reached n)) after → n < 2 ^ 63
 by_ask G H p before after n h (inl t) = let no = t.2 in cc
 by_ask G H p before after n h (inr (inl t)) = let no = t.2 in cc
-by_ask G H p before after n h (inr (inr t)) = by_moves t.0 before after n t.4 t.5
+by_ask G H p before after n h (inr (inr t)) = by_moves t.0 before after n t.3 t.4
 
 by_graphs : (G H : Graph) (p : Pair) (before after : List ℕ) (n : ℕ) → length before < 2 ^ 64 → GraphsSay G H p before (Ok (Reached n)) after → n < 2 ^ 63
 by_graphs G H p before after n h (inl t) = let no = t.2 in cc

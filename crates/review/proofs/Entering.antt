@@ -54,8 +54,7 @@ module _ (G H : Graph) (p : Pair) (before : List ℕ) where
       inr (inr (
         take m after,
         s.2,
-        h.moves,
-        subst (LeastLength G H p.left p.right) (sym many) s.3,
+        (h.moves, subst (LeastLength G H p.left p.right) (sym many) s.3),
         (let low : length (take m after) ≤ longest = omega arith in low),
         inr (
           (let low : length (take m after) ≤ places = omega arith in low),
@@ -79,8 +78,7 @@ module _ (G H : Graph) (p : Pair) (before : List ℕ) where
       inr (inr (
         least.schedule,
         s.2,
-        least.replays,
-        subst (LeastLength G H p.left p.right) (sym long) least,
+        (least.replays, subst (LeastLength G H p.left p.right) (sym long) least),
         (let low : length least.schedule ≤ longest = omega arith in low),
         inl ((let over : places < length least.schedule = omega arith in over), t.0 ∙ ap (λ x. Err x) same ∙ ap (λ k. Err (ask_refusal (TooShort k))) (sym long), t.1),
       ))

@@ -115,7 +115,7 @@ pair_line G H ps i p (Ok (Reached n)) after a b h =
     let s = h.says in
     let many = many_moves G H ps longest i p n after h in
     let few = bounded G H ps longest i p (Ok (Reached n)) n after a b h s.3 in
-    inr (inr (take n after, s.2, h.moves, subst (LeastLength G H p.left p.right) (sym many) s.3, (let low : length (take n after) ≤ longest = omega arith in low), refl))
+    inr (inr (take n after, s.2, (h.moves, subst (LeastLength G H p.left p.right) (sym many) s.3), (let low : length (take n after) ≤ longest = omega arith in low), refl))
 pair_line G H ps i p (Err (NoSummary s)) after a b h = no_summary_missing G H ps longest i p s after a b h
 pair_line G H ps i p (Err (NoLocation s)) after a b h = inl (s, h.says.2, refl)
 pair_line G H ps i p (Err (TooShort n)) after a b h = let short = not_too_short G H ps longest i p n after a b h in absurd (omega arith)

@@ -4,8 +4,7 @@ use Rattle.locks.specs.declared.refusals.Refusal.{Refusal}
 use Rattle.locks.specs.declared.together.Side.{Side}
 use Rattle.locks.specs.declared.together.Side.TheVariants.{Left, Right}
 use Rattle.locks.specs.Graphs.{Graph}
-use Rattle.locks.specs.Schedules.{Replays}
-use Rattle.locks.specs.Shortest.{LeastLength, NoSchedule}
+use Rattle.locks.specs.Shortest.{Shortest, NoSchedule}
 use Rattle.pairs.specs.Answers.{longest}
 use Rattle.search.specs.declared.faults.SummariseFault.{SummariseFault}
 use Rattle.search.specs.declared.threads.Pair.{Pair}
@@ -25,4 +24,4 @@ abbrev pub ByPair : Graph → Graph → Pair → (Side → Type 0) → Type 0 �
 ByPair G H p missing never reached =
     ((s : Side) × Missing G H p.left p.right s × missing s)
     ⊎ ((BothThere G H p.left p.right × NoSchedule G H p.left p.right × never)
-    ⊎ ((moves : List ℕ) × BothThere G H p.left p.right × Replays G H p.left p.right moves × LeastLength G H p.left p.right (length moves) × (length moves ≤ longest) × reached moves))
+    ⊎ ((moves : List ℕ) × BothThere G H p.left p.right × Shortest G H p.left p.right moves × (length moves ≤ longest) × reached moves))

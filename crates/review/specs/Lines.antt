@@ -3,6 +3,7 @@ use Rattle.std.specs.Prelude.{◌≡◌, ℕ, ◌-◌, ◌^◌, ◌<◌, ◌≤�
 use Rattle.std.specs.Fmt.{decimal}
 use Rattle.std.specs.List.{flat_map}
 use Rattle.locks.specs.declared.together.Side.TheVariants.{Left, Right}
+use Rattle.locks.specs.Limits.{first_right}
 use Rattle.locks.specs.Moves.{number_of}
 use Rattle.search.specs.declared.threads.Pair.{Pair}
 use Rattle.review.specs.declared.file.fault.Within.{Within}
@@ -21,12 +22,12 @@ pair_text p = ((decimal p.left ++ codes " ") ++ decimal p.right) ++ codes " "
 
 -- L and the move, or R and the move less 256, behind a space
 abbrev pub move_text : ℕ → List ℕ
-move_text m = cond (nat_lt m 256) (codes " L" ++ decimal m) (codes " R" ++ decimal (m - 256))
+move_text m = cond (nat_lt m first_right) (codes " L" ++ decimal m) (codes " R" ++ decimal (m - first_right))
 
 -- a number below 256 is told as L and itself, 256 and any number more as R and that number
 abbrev pub MovesAreTold : Type 0
 MovesAreTold =
-    ((choice : ℕ) → choice < 256 → move_text (number_of Left choice) ≡ codes " L" ++ decimal choice)
+    ((choice : ℕ) → choice < first_right → move_text (number_of Left choice) ≡ codes " L" ++ decimal choice)
     × ((choice : ℕ) → move_text (number_of Right choice) ≡ codes " R" ++ decimal choice)
 
 abbrev pub moves_text : List ℕ → List ℕ

@@ -4,9 +4,7 @@ ghost use Rattle.std.specs.Fmt.{decimal};
 ghost use Rattle.review.specs.Lines.{move_text, moves_text, Filled};
 
 use itoa::Buffer;
-
-// A move below this is the left thread's.
-const RIGHT: u16 = 256;
+use locks::moves::FIRST_RIGHT;
 
 // The bytes from `at` on, and where they end.
 pub(crate) fn put(space: &mut [u8], at: usize, bytes: &[u8]) -> usize
@@ -28,10 +26,10 @@ pub(crate) fn put_number(space: &mut [u8], at: usize, number: u64) -> usize
 fn put_move(space: &mut [u8], at: usize, number: u16) -> usize
     ensures { (before text : List ℕ) → Filled before text space.old at → Filled before (text ++ move_text number) space.new result }
 {
-    if number < RIGHT {
+    if number < FIRST_RIGHT {
         put_choice(space, at, b'L', number)
     } else {
-        put_choice(space, at, b'R', number - RIGHT)
+        put_choice(space, at, b'R', number - FIRST_RIGHT)
     }
 }
 
