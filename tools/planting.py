@@ -35,7 +35,8 @@ def tried(what, changes, crate):
     below = re.search(r'^rt: the library (\w+) did not build', said, re.M)
     first = re.search(r'((?:src|specs|proofs)/\S+?):(\d+):\d+: (?:error|note: it is|it is)', said)
     return Outcome(
-        refused=run.returncode != 0 and verdicts[-1:] != ['proved'],
+        # a check that breaks off says nothing of the fault
+        refused=run.returncode != 0 and bool(below or verdicts[-1:] == ['not-proved']),
         crate=below.group(1) if below else crate,
         place=f'{first.group(1)}:{first.group(2)}' if first else None,
         said=said,
