@@ -116,8 +116,13 @@ static void make(const char *folder)
     crowd(&right, 1, 0, "234567", "", 11);
     save(folder, "crossed", left.commands - 12, right.commands - 12, MOST_PAIRS);
     /* schedules of nearly 2,000 moves */
-    int a = long_way(&left, 460, 30, 0), b = long_way(&right, 460, 30, 1);
+    int a = long_way(&left, 460, 30, 0);
+    int b = long_way(&right, 460, 30, 1);
     save(folder, "long", a, b, MOST_PAIRS);
+    /* the same, with no pair twice */
+    a = long_way(&left, 420, 80, 0);
+    b = long_way(&right, 420, 80, 1);
+    save(folder, "far", a, b, MOST_PAIRS);
     /* as many places of both as there may be, and few pairs */
     long_way(&left, 507, 0, 0);
     long_way(&right, 507, 0, 1);

@@ -49,8 +49,9 @@ seconds_back (back.Entry e) = []
 seconds_back (back.Asked x list) = []
 seconds_back (back.Replayed x moves) = []
 
--- The answers keep the rules, and every graph is within the bounds. The graphs handed back, and last the one that is left in the folder, are those that
--- were put in, in order. Each folder's entries are those of its last summarise since its last exchange.
+-- The answers keep the rules, and every graph is within the bounds. The graphs handed back, and last the one that is
+-- left in the folder, are those that were put in, in order. Each folder's entries are those of its last summarise since
+-- its last exchange.
 pub record RunRight {A B : Type 0} (of_first : A → Graph) (of_second : B → Graph) (g : A) (h : B) (cs : List (Call A B)) (ran : Outcome A B) : Type 0 where
   pub tables : List (List Entry)
   pub rules : KeepsTheRules (of_first g) (of_second h) (map (call_meaning of_first of_second) cs) (map (answer_meaning of_first of_second) (vec_items ran.answers)) tables

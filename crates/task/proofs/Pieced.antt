@@ -4,7 +4,7 @@ use Rattle.std.proofs.ByRecursion.{All-append}
 use Rattle.std.proofs.lemmas.Bool.{and_parts, eqb-false, not-true, eq-eqb, ne_eqb, cond-true, cond-false}
 use Rattle.std.proofs.lemmas.List.Elements.{recursion_from_All}
 use Rattle.std.specs.List.{AllByRecursion}
-use Rattle.task.specs.Left.{words_of}
+use Rattle.task.specs.Remaining.{words_of}
 use Rattle.task.specs.Pieces.{onto, cuts, lines, words}
 use Rattle.task.specs.Reasons.{Lacks}
 use Rattle.task.specs.Written.{spaced, line_text, ending}

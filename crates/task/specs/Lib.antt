@@ -1,8 +1,8 @@
 pub mod Accepted
 pub mod Faults
-pub mod Held
+pub mod Contents
 pub mod Items
-pub mod Left
+pub mod Remaining
 pub mod Pieces
 pub mod Places
 pub mod Reasons

@@ -1,6 +1,6 @@
 // The lists and numbers of one task.
 ghost use Rattle.std.specs.Prelude.{◌≡◌, IfOk};
-ghost use Rattle.task.specs.Held.{content_of, empty};
+ghost use Rattle.task.specs.Contents.{content_of, empty};
 
 use crate::items::Items;
 use std::alloc::{AllocError, Global};

@@ -1,7 +1,7 @@
 // A line of the text: its keyword, then its items.
 ghost use Rattle.std.specs.Prelude.{◌≡◌, ℕ, List, [], Option};
 ghost use Rattle.std.specs.Option.{ok_or};
-ghost use Rattle.task.specs.Left.{lines_left, words_left};
+ghost use Rattle.task.specs.Remaining.{lines_left, words_left};
 ghost use Rattle.task.specs.Spelled.{Computes, each, line_of, opened, pair_of, told};
 
 use crate::fault::Wrong;

@@ -1,7 +1,7 @@
 // The lines of a text, and the words of a line.
 ghost use Rattle.std.specs.Prelude.{◌≡◌, ◌≢◌, ◌∷◌, ◌++◌, All, MatchOption};
 ghost use Rattle.std.specs.Iterator.{YieldsFirstRef, item_count};
-ghost use Rattle.task.specs.Left.{lines_left, words_left};
+ghost use Rattle.task.specs.Remaining.{lines_left, words_left};
 ghost use Rattle.task.specs.Pieces.{lines, words};
 
 // The bytes before the first `end`, and those after it if there is one.

@@ -1,6 +1,6 @@
 // A place for one task. A text is read into the spare content, which is shown only if the whole text was fine.
 ghost use Rattle.std.specs.Prelude.{◌≡◌, ◌≤◌, length, IfOk};
-ghost use Rattle.task.specs.Held.{empty, kept};
+ghost use Rattle.task.specs.Contents.{empty, kept};
 ghost use Rattle.task.specs.Places.{task_of};
 ghost use Rattle.task.specs.Spelled.{spelled, told};
 

@@ -1,6 +1,6 @@
 // The whole text, line by line, into one content.
 ghost use Rattle.std.specs.Prelude.{◌≡◌};
-ghost use Rattle.task.specs.Held.{content_of};
+ghost use Rattle.task.specs.Contents.{content_of};
 ghost use Rattle.task.specs.Spelled.{spelled, told};
 
 use crate::content::Content;

@@ -54,7 +54,7 @@ fn replays(rt: &HostRuntime) -> anyhow::Result<()> {
     replayed(rt, a, b, pair(3, 1), &[0])
 }
 
-fn pair(left: u32, right: u32) -> Pair {
+pub(crate) fn pair(left: u32, right: u32) -> Pair {
     Pair { left, right }
 }
 
@@ -99,12 +99,7 @@ fn folder(rt: &HostRuntime, bytes: &[u8]) -> anyhow::Result<Folder<Listing>> {
 }
 
 fn count(rt: &HostRuntime, name: &str, bytes: &[u8]) -> anyhow::Result<()> {
-    let mut folder = folder(rt, bytes)?;
-    match folder.summarise() {
-        Ok(states) => println!(rt; "{name}: {states}")?,
-        Err(fault) => println!(rt; "{name}: {}", fault.refusal())?,
-    }
-    Ok(())
+    tables::count(rt, name, threads::listing(rt.alloc(), bytes)?)
 }
 
 // The entries of one location: distance, and each held lock with its history.

@@ -1,6 +1,6 @@
 // Threads as edge tables: what no listing can be, what a listing is too, and the same with their locks renamed.
 use crate::sequence::BLANK;
-use crate::threads;
+use crate::{pair, threads};
 use graph::ThreadGraph;
 use layers::names::Names;
 use layers::renamed::Renamed;
@@ -103,10 +103,6 @@ fn renamed(rt: &HostRuntime) -> anyhow::Result<()> {
     judge(rt, "renamed in a ring", one, zero, pair(1, 1))
 }
 
-fn pair(left: u32, right: u32) -> Pair {
-    Pair { left, right }
-}
-
 // The graph with other names for its locks.
 fn under<G: ThreadGraph + Drop>(graph: G, numbers: [u8; 8]) -> anyhow::Result<Renamed<G>> {
     let mut names = Names::new();
@@ -124,7 +120,12 @@ fn summarised<G: ThreadGraph + Drop>(heap: Global, graph: G) -> anyhow::Result<F
     Ok(folder)
 }
 
-fn count<G: ThreadGraph + Drop>(rt: &HostRuntime, name: &str, graph: G) -> anyhow::Result<()> {
+// How many locked states the thread alone reaches, or why there is no summary.
+pub(crate) fn count<G: ThreadGraph + Drop>(
+    rt: &HostRuntime,
+    name: &str,
+    graph: G,
+) -> anyhow::Result<()> {
     let mut folder = Folder::open(Room::new(rt.alloc())?, graph);
     match folder.summarise() {
         Ok(states) => println!(rt; "{name}: {states}")?,

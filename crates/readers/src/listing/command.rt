@@ -1,3 +1,4 @@
+// The commands of a listing.
 ghost use Rattle.std.specs.Prelude.{◌≡◌};
 ghost use Rattle.readers.specs.Flow.{inside, goes_on};
 

@@ -1,3 +1,4 @@
+// What can be wrong with a listing, and how it is refused.
 ghost use Rattle.std.specs.Prelude.{◌≡◌};
 ghost use Rattle.readers.specs.Faults.{fault, number, listing_refusal};
 

@@ -1,3 +1,4 @@
+// What can be wrong with a review file, and how it is refused.
 ghost use Rattle.std.specs.Prelude.{◌≡◌};
 ghost use Rattle.review.specs.FileFaults.{file_refusal, of_file, within, within_name};
 

@@ -1,3 +1,4 @@
+// Where in a file a reader stands, as far as it decides what may come next.
 ghost use Rattle.std.specs.Prelude.{◌≡◌};
 ghost use Rattle.review.specs.Commands.{kind_of};
 ghost use Rattle.review.specs.Sections.{command_of};

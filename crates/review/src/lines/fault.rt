@@ -1,3 +1,4 @@
+// How a line is refused that does not fit.
 ghost use Rattle.std.specs.Prelude.{◌≡◌};
 ghost use Rattle.review.specs.LineFaults.{line_refusal};
 

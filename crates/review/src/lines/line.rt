@@ -1,3 +1,4 @@
+// The lines of a report.
 use crate::file::Within;
 use search::threads::Pair;
 

@@ -1,3 +1,4 @@
+// Writing a line into lent space.
 ghost use Rattle.std.specs.Prelude.{◌≡◌, length};
 ghost use Rattle.review.specs.Lines.{pair_text, reached_text, refused_text, line_text, counted, Filled, LineWritten};
 

@@ -1,3 +1,4 @@
+// Making the place of a listing, and reading a listing into it.
 ghost use Rattle.std.specs.Prelude.{◌≡◌, [], ◌∷◌, length, IfOk};
 ghost use Rattle.readers.specs.declared.listing.command.Command.TheVariants.{Stop};
 ghost use Rattle.readers.specs.contracts.listing.place.questions.ListingThreadGraph.TheImpl.{ghosts as listing_ghosts};

@@ -1,3 +1,4 @@
+// Opening a file, and taking the next section off it.
 ghost use Rattle.review.specs.Readers.{standing, Opens, HandsOut};
 
 use crate::file::reader::Reader;

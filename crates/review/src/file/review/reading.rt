@@ -1,3 +1,4 @@
+// Making the room for a review, and reading a whole file into it.
 ghost use Rattle.std.specs.Prelude.{◌≡◌, ◌<◌, length, IfOk, vec_items};
 ghost use Rattle.layers.specs.Naming.{numbers_in, NamesSet};
 ghost use Rattle.review.specs.Commands.{Sized};

@@ -1,6 +1,6 @@
 use Rattle.std.proofs.Common.{◌≡◌, ℕ, List, [], Option}
 use Rattle.task.specs.declared.fault.Wrong.{Wrong}
-use Rattle.task.specs.Left.{words_left}
+use Rattle.task.specs.Remaining.{words_left}
 use Rattle.task.specs.Spelled.{Computes, each}
 use Rattle.task.proofs.line.take_items.Given as goal
 

@@ -2,7 +2,7 @@ use Rattle.std.proofs.Common.{◌≡◌, Err, sym, ap, ◌∙◌, codes, rules}
 use Rattle.std.proofs.lemmas.Result.{err_from_is_err_and}
 use Rattle.std.specs.Option.{ok_or}
 use Rattle.task.specs.declared.fault.Wrong.TheVariants.{Byte, Move}
-use Rattle.task.specs.Left.{lines_left}
+use Rattle.task.specs.Remaining.{lines_left}
 use Rattle.task.specs.Spelled.{at_line, bytes, line_of, move_numbers_of, pair_of, told}
 use Rattle.task.specs.Words.{byte_of, move_number}
 use Rattle.task.proofs.Lines.{broke}

@@ -1,5 +1,5 @@
 use Rattle.std.proofs.Common.{◌≡◌, ◌∷◌, length, ap, sym, arith, false-eqb, refl, ◌∙◌}
-use Rattle.task.specs.Left.{lines_left}
+use Rattle.task.specs.Remaining.{lines_left}
 use Rattle.task.specs.Pieces.{lines}
 use Rattle.task.proofs.Pieced.{lines_first}
 use Rattle.task.proofs.pieces.LinesIterator.next.Goals as goal

@@ -1,5 +1,5 @@
 use Rattle.std.proofs.Common.{◌≡◌, ◌∷◌, length, ap, ◌∙◌, arith}
-use Rattle.task.specs.Left.{words_of, words_left}
+use Rattle.task.specs.Remaining.{words_of, words_left}
 use Rattle.task.proofs.Pieced.{words_first}
 use Rattle.task.proofs.pieces.WordsIterator.next.Goals as goal
 use Rattle.task.proofs.pieces.WordsIterator.next.Goals.{After-cut}
