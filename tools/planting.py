@@ -21,11 +21,12 @@ def replace(what, work, path, old, new):
 
 
 def tried(what, changes, crate):
-    """Checks a crate of a fresh copy, in which each change (PATH, OLD, NEW) is made."""
+    """Checks a crate of a copy, in which each change (PATH, OLD, NEW) is made. What an earlier check of the crates kept is
+    copied too, so that only what hangs on the changes is proved anew."""
     top = root()
     with tempfile.TemporaryDirectory() as work:
         shutil.copy(os.path.join(top, 'crates.txt'), work)
-        shutil.copytree(os.path.join(top, 'crates'), os.path.join(work, 'crates'), ignore=shutil.ignore_patterns('out'))
+        shutil.copytree(os.path.join(top, 'crates'), os.path.join(work, 'crates'))
         for path, old, new in changes:
             replace(what, work, path, old, new)
         run = subprocess.run(['rt', 'check'], cwd=os.path.join(work, 'crates', crate), capture_output=True, text=True)

@@ -13,7 +13,7 @@ use Rattle.task.proofs.Said.{Reads, byte_reads, location_reads, move_reads}
 use Rattle.task.proofs.Several.{items_lack}
 use Rattle.task.proofs.Stages.{all_lines}
 
--- no LF is in a right line
+-- no LF is in a proper line
 endless_word : (row : Row) → Lacks 10 (word row)
 endless_word left_row = lacks_if 10 (codes "left") refl
 endless_word right_row = lacks_if 10 (codes "right") refl

@@ -5,7 +5,7 @@ use Rattle.task.specs.declared.fault.Wrong.{Wrong}
 use Rattle.task.specs.declared.fault.Wrong.TheVariants.{Missing, Keyword, Byte, Number, Move, Surplus}
 use Rattle.task.specs.Accepted.{LineSays, TextSays, AcceptedTextsSayTheirTasks}
 use Rattle.task.specs.Items.{IsByte, IsMove}
-use Rattle.task.specs.Reasons.{Row, left_row, right_row, pair_row, move_row, rows, word, RightLine, Before, WrongInList, WrongItems, WrongLine, WrongThere, Refused, FaultsHaveTheirReasons}
+use Rattle.task.specs.Reasons.{Row, left_row, right_row, pair_row, move_row, rows, word, ProperLine, Before, WrongInList, WrongItems, WrongLine, WrongThere, Refused, FaultsHaveTheirReasons}
 use Rattle.task.specs.Spelled.{TaskValue, spelled}
 use Rattle.task.specs.Words.{byte_of, move_number}
 use Rattle.task.specs.Written.{line_text}
@@ -23,7 +23,7 @@ list_judged Says spells reads wrong keyword line items is =
     (λ some. inr some)
     (judged Says spells reads wrong items)
 
-items_judged : (row : Row) (line : List ℕ) (items : List (List ℕ)) → line ≡ line_text (word row) items → RightLine row line ⊎ ((w : Wrong) × WrongItems row w items)
+items_judged : (row : Row) (line : List ℕ) (items : List (List ℕ)) → line ≡ line_text (word row) items → ProperLine row line ⊎ ((w : Wrong) × WrongItems row w items)
 items_judged left_row line items is = list_judged IsByte byte_of byte_reads Byte (word left_row) line items is
 items_judged right_row line items is = list_judged IsByte byte_of byte_reads Byte (word right_row) line items is
 items_judged pair_row line items is =
@@ -33,7 +33,7 @@ items_judged pair_row line items is =
     (pair_judged items)
 items_judged move_row line items is = list_judged IsMove move_number move_reads Move (word move_row) line items is
 
-line_judged : (row : Row) (line : List ℕ) → RightLine row line ⊎ ((w : Wrong) × WrongLine row w line)
+line_judged : (row : Row) (line : List ℕ) → ProperLine row line ⊎ ((w : Wrong) × WrongLine row w line)
 line_judged row line =
     ⊎_elim
     (λ other. inr (Keyword, inl (refl, other)))
@@ -43,7 +43,7 @@ line_judged row line =
     (items_judged row line begun.0 begun.1))
     (line_worded (word row) line (plain_word row))
 
--- right lines up to the end of the text, or the first fault
+-- proper lines up to the end of the text, or the first fault
 abbrev Fault : List Row → List ℕ → Type 0
 Fault all text = (w : Wrong) × (front : List Row) × (back : List Row) × (rest : List ℕ) × (all ≡ front ++ back) × Before front text rest × WrongThere back w rest
 

@@ -6,7 +6,7 @@ use Rattle.task.specs.declared.fault.Wrong.TheVariants.{Byte, Move}
 use Rattle.task.specs.Accepted.{LineSays}
 use Rattle.task.specs.Items.{IsByte, IsLocation, IsMove}
 use Rattle.task.specs.Pieces.{lines}
-use Rattle.task.specs.Reasons.{Lacks, Row, left_row, right_row, pair_row, move_row, rows, word, RightLine, FirstLine, Before, WrongItems, WrongThere}
+use Rattle.task.specs.Reasons.{Lacks, Row, left_row, right_row, pair_row, move_row, rows, word, ProperLine, FirstLine, Before, WrongItems, WrongThere}
 use Rattle.task.specs.Spelled.{TaskValue, each, bytes, pair_of, move_numbers_of, line_of, at_line, spelled}
 use Rattle.task.specs.Words.{number_of, byte_of, move_number}
 use Rattle.task.proofs.Cut.{first_line, lines_there, line_read, line_refused, word_refused}
@@ -21,7 +21,7 @@ plain_word right_row = lacks_if 32 (codes "right") refl
 plain_word pair_row = lacks_if 32 (codes "pair") refl
 plain_word move_row = lacks_if 32 (codes "moves") refl
 
--- a right line
+-- a proper line
 list_read : (row : Row) (Says : List ℕ → ℕ → Type 0) (item_of : List ℕ → Option ℕ) (reads : Reads Says item_of) (wrong : Wrong) (text line rest xs : List ℕ) → FirstLine text line rest → LineSays Says (word row) line xs → length xs ≤ 4096 → line_of (word row) (each item_of wrong []) (lines text) ≡ Ok (xs, lines rest)
 list_read row Says item_of reads wrong text line rest xs first says room =
     line_read (word row) (plain_word row) (each item_of wrong []) text line rest first says.0 xs says.1
@@ -59,7 +59,7 @@ abbrev RefusedFrom : List Row → List ℕ → ℕ → Wrong → Type 0
 RefusedFrom [] text n w = (n ≡ 1) × WrongThere [] w text
 RefusedFrom (row ∷ more) text n w =
     ((n ≡ 1) × WrongThere (row ∷ more) w text)
-    ⊎ ((line : List ℕ) × (below : List ℕ) × (m : ℕ) × FirstLine text line below × RightLine row line × (n ≡ suc m) × RefusedFrom more below m w)
+    ⊎ ((line : List ℕ) × (below : List ℕ) × (m : ℕ) × FirstLine text line below × ProperLine row line × (n ≡ suc m) × RefusedFrom more below m w)
 
 refused_here : (all : List Row) (text : List ℕ) (w : Wrong) → WrongThere all w text → RefusedFrom all text 1 w
 refused_here [] text w h = (refl, h)
@@ -77,7 +77,7 @@ refused_from (r ∷ all) (row ∷ front) back text rest w split before wrong =
       before.1,
       suc (length front),
       before.2,
-      subst (λ q. RightLine q before.0) same before.3,
+      subst (λ q. ProperLine q before.0) same before.3,
       refl,
       refused_from all front back before.1 rest w more before.4 wrong,
     )

@@ -31,11 +31,11 @@ word pair_row = codes "pair"
 word move_row = codes "moves"
 
 -- at most 4096 bytes or moves, and just two locations
-abbrev pub RightLine : Row → List ℕ → Type 0
-RightLine left_row line = (bytes : List ℕ) × LineSays IsByte (codes "left") line bytes × (length bytes ≤ 4096)
-RightLine right_row line = (bytes : List ℕ) × LineSays IsByte (codes "right") line bytes × (length bytes ≤ 4096)
-RightLine pair_row line = (left : ℕ) × (right : ℕ) × LineSays IsLocation (codes "pair") line (left ∷ right ∷ [])
-RightLine move_row line = (moves : List ℕ) × LineSays IsMove (codes "moves") line moves × (length moves ≤ 4096)
+abbrev pub ProperLine : Row → List ℕ → Type 0
+ProperLine left_row line = (bytes : List ℕ) × LineSays IsByte (codes "left") line bytes × (length bytes ≤ 4096)
+ProperLine right_row line = (bytes : List ℕ) × LineSays IsByte (codes "right") line bytes × (length bytes ≤ 4096)
+ProperLine pair_row line = (left : ℕ) × (right : ℕ) × LineSays IsLocation (codes "pair") line (left ∷ right ∷ [])
+ProperLine move_row line = (moves : List ℕ) × LineSays IsMove (codes "moves") line moves × (length moves ≤ 4096)
 
 -- some bytes are there, the line goes up to their first LF or to their end, and the rest follows
 pub record FirstLine (text line rest : List ℕ) : Type 0 where
@@ -43,11 +43,11 @@ pub record FirstLine (text line rest : List ℕ) : Type 0 where
   pub without : Lacks 10 line
   pub there : (text ≡ line ++ 10 ∷ rest) ⊎ ((text ≡ line) × (rest ≡ []))
 
--- right lines stand in front of the rest
+-- proper lines stand in front of the rest
 abbrev pub Before : List Row → List ℕ → List ℕ → Type 0
 Before [] text rest = text ≡ rest
 Before (row ∷ more) text rest =
-    (line : List ℕ) × (below : List ℕ) × FirstLine text line below × RightLine row line × Before more below rest
+    (line : List ℕ) × (below : List ℕ) × FirstLine text line below × ProperLine row line × Before more below rest
 
 -- the word, and then a space or nothing
 abbrev pub BeginsWith : List ℕ → List ℕ → Type 0

@@ -1,4 +1,5 @@
-// Each pair of a review is asked once, however often it stands there: no work is done again.
+// Which pairs of a review are asked: one that stands there several times, once. Nothing proves that it is just once,
+// since nothing but time rests on it.
 ghost use Rattle.std.specs.Prelude.{◌≡◌, ◌⊎◌, [], ◌∷◌, ◌++◌, ◌<◌, IfOk, Some, length, vec_items, vec_capacity};
 ghost use Rattle.std.specs.List.{slice_get};
 ghost use Rattle.review.specs.Picking.{Picks};
@@ -14,7 +15,7 @@ pub(crate) struct Asks {
 }
 
 impl Asks {
-    // For pairs of so many locations each; a pair of others is asked anew each time, and refused at once.
+    // For threads of so many locations.
     pub(crate) fn of(
         heap: Global,
         pairs: &[Pair],
@@ -23,7 +24,7 @@ impl Asks {
     ) -> Result<Asks, AllocError>
         ensures { IfOk result (λ asks. Picks (vec_items asks.pairs) (vec_items asks.places) pairs.now) }
     {
-        let mut hints = Hints::new(heap, lefts, rights)?;
+        let mut hints = Hints::new(heap, pairs.len(), lefts, rights)?;
         let mut asked = Vec::with_capacity(heap, pairs.len())?;
         let mut places = Vec::with_capacity(heap, pairs.len())?;
         for pair in pairs {
@@ -54,41 +55,51 @@ fn place_of(pair: Pair, asked: &mut Vec<Pair>, hints: &mut Hints) -> usize
     place
 }
 
-// Where each pair of locations may stand among those that are asked. Nothing rests on it but time: a hint is
-// looked at before it is believed.
+// Where each pair of locations may stand among those that are asked; all pairs with a missing location on one side
+// share the place behind its locations. Nothing rests on a hint but time: it is looked at before it is believed.
 #[derive(Drop)]
 struct Hints {
     lefts: u32,
     rights: u32,
-    places: Vec<Option<usize>>,
+    places: Vec<u16>,
 }
 
 impl Hints {
-    fn new(heap: Global, lefts: u16, rights: u16) -> Result<Hints, AllocError> {
+    // A single pair needs none.
+    fn new(heap: Global, pairs: usize, lefts: u16, rights: u16) -> Result<Hints, AllocError> {
+        let rows = usize::from(lefts) + 1;
+        let columns = usize::from(rights) + 1;
+        let count = if pairs > 1 {
+            rows.saturating_mul(columns)
+        } else {
+            0
+        };
         Ok(Hints {
             lefts: u32::from(lefts),
             rights: u32::from(rights),
-            places: vec![in heap; None; usize::from(lefts) * usize::from(rights)]?,
+            places: vec![in heap; 0; count]?,
         })
     }
 
     fn at(&self, pair: Pair) -> Option<usize> {
-        *self.places.get(self.index(pair)?)?
+        self.places
+            .get(self.index(pair))
+            .map(|place| usize::from(*place))
     }
 
     fn note(&mut self, pair: Pair, place: usize) {
-        if let Some(index) = self.index(pair) {
+        let index = self.index(pair);
+        if let Ok(place) = u16::try_from(place) {
             if index < self.places.len() {
-                self.places[index] = Some(place);
+                self.places[index] = place;
             }
         }
     }
 
-    fn index(&self, pair: Pair) -> Option<usize> {
-        if pair.left >= self.lefts || pair.right >= self.rights {
-            return None;
-        }
-        let row = (pair.left as usize).saturating_mul(self.rights as usize);
-        Some(row.saturating_add(pair.right as usize))
+    fn index(&self, pair: Pair) -> usize {
+        let row = pair.left.min(self.lefts) as usize;
+        let column = pair.right.min(self.rights) as usize;
+        row.saturating_mul(self.rights as usize + 1)
+            .saturating_add(column)
     }
 }
