@@ -4,6 +4,7 @@ ghost use Rattle.review.specs.Taking.{KindHere, TakesRun, TakesPair, TakesOff};
 
 use crate::file::kind::CommandKind;
 use crate::file::{Phase, Section};
+use layers::names::NAMES;
 
 #[derive(Clone, Copy, Debug, PartialEq, Eq)]
 pub(crate) enum Wrong {
@@ -63,7 +64,7 @@ pub(crate) fn take(phase: Phase, bytes: &[u8], at: usize) -> Result<(Section<'_>
             Ok((Section::Right { bytes, place }, rest))
         }
         CommandKind::Rename => {
-            let (numbers, rest) = rest.split_at(8);
+            let (numbers, rest) = rest.split_first_chunk::<NAMES>().unwrap();
             let place = at + 1;
             Ok((Section::Rename { numbers, place }, rest))
         }

@@ -1,15 +1,12 @@
 // Making the room for a review, and reading a whole file into it.
 ghost use Rattle.std.specs.Prelude.{◌≡◌, ◌<◌, length, IfOk, vec_items};
-ghost use Rattle.layers.specs.Naming.{numbers_in, NamesSet};
-ghost use Rattle.review.specs.Commands.{Sized};
 ghost use Rattle.review.specs.Entering.{Emptied, Entered, filled};
 ghost use Rattle.review.specs.Limits.{most_pairs};
 ghost use Rattle.review.specs.Reviews.{review_of, meaning_of, blank, FileSays, FileRead};
-ghost use Rattle.review.specs.Sections.{command_of};
 
 use crate::file::review::Review;
 use crate::file::{FileFault, MOST_BYTES, Reader, Section};
-use layers::names::{NAMES, Names, NamesFault};
+use layers::names::Names;
 use layers::renamed::Renamed;
 use readers::listing::Listing;
 use search::threads::Pair;
@@ -60,8 +57,7 @@ impl Review {
     }
 
     fn enter(&mut self, section: Section) -> Result<(), FileFault>
-        requires room { length (review_of self.old).pairs < most_pairs }
-        requires sized { Sized (command_of section) }
+        requires { length (review_of self.old).pairs < most_pairs }
         ensures { Entered section.entry (review_of self.old) result (review_of self.new) }
     {
         match section {
@@ -74,9 +70,12 @@ impl Review {
                 .graph
                 .read(bytes)
                 .map_err(|fault| FileFault::InRight { fault, place }),
-            Section::Rename { numbers, place } => rename(&mut self.right.names, numbers).map_err(
-                |fault| FileFault::InNames { fault, place },
-            ),
+            Section::Rename { numbers, place } => {
+                let names = &mut self.right.names;
+                names
+                    .set(*numbers)
+                    .map_err(|fault| FileFault::InNames { fault, place })
+            }
             Section::Pair { left, right } => {
                 self.pairs.push_reserved(Pair {
                     left: u32::from(left),
@@ -94,14 +93,4 @@ impl Review {
     {
         (self.left, self.right, self.pairs)
     }
-}
-
-// The eight numbers of a renaming.
-fn rename(names: &mut Names, numbers: &[u8]) -> Result<(), NamesFault>
-    requires { length numbers.now ≡ 8 }
-    ensures { NamesSet numbers.now (numbers_in names.old) result (numbers_in names.new) }
-{
-    let mut eight = [0; NAMES];
-    eight.copy_from_slice(numbers);
-    names.set(eight)
 }
