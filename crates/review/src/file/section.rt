@@ -1,8 +1,8 @@
 // The sections of a file.
 use layers::names::NAMES;
 
-// What one command hands over. The bytes of a listing, or the eight numbers of a renaming, are a part of the
-// file, and `place` is the offset of the first of them.
+// What one command hands over. The bytes of a listing, or the eight numbers of a renaming, are a part of the file, and
+// `place` is the offset of the first of them.
 #[derive(Clone, Copy, Debug)]
 pub enum Section<'f> {
     Left {
