@@ -17,7 +17,7 @@ use Rattle.review.specs.declared.file.phase.Phase.TheVariants.{BeforeLeft, Among
 use Rattle.review.specs.Commands.{Command, left, right, rename, pair, end, kind_of, first_byte, written, encode, Sized, header}
 use Rattle.review.specs.Limits.{most_bytes}
 use Rattle.review.specs.Order.{Allowed, InOrder, phase_after, phase_behind}
-use Rattle.review.specs.Reviews.{Meaning, Front, FaultIn, Written, Sound, FileSays, NumbersFrom, FilesReadBack, file_commands}
+use Rattle.review.specs.Reviews.{Meaning, Front, FaultIn, Written, Sound, FileSays, FileRead, NumbersFrom, FilesReadBack, file_commands}
 use Rattle.review.specs.Taking.{Forbidden, EndsThere, Stands}
 use Rattle.review.proofs.Commands.{Compared, same, longer, shorter, compare, prefix_free}
 use Rattle.review.proofs.Fronts.{Body, pair_of}
@@ -266,6 +266,14 @@ one_answer bs q r a b =
     (λ over. long bs q over a ∙ sym (long bs r over b))
     (λ within. one_end bs q r (ended bs q within a) (ended bs r within b))
     (cases_lt most_bytes (length bs))
+
+-- so a review holds what the only answer says, or what it held before
+
+pub read_whole : (bs : List ℕ) (before after : Meaning) → FileSays bs (Ok after) → FileRead bs before (Ok tt) after
+read_whole bs before after says = record { says = says; only = λ q h. one_answer bs q (Ok after) h says; stays = tt }
+
+pub read_refused : (bs : List ℕ) (before : Meaning) (f : FileFault) → FileSays bs (Err f) → FileRead bs before (Err f) before
+read_refused bs before f says = record { says = says; only = λ q h. one_answer bs q (Err f) h says; stays = refl }
 
 pub files_read_back : FilesReadBack
 files_read_back l r renamings pairs lefts rights ns q within sized left_is right_is numbers says =

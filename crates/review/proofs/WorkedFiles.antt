@@ -1,10 +1,10 @@
 -- Worked files, worked out.
-use Rattle.std.proofs.Common.{◌≡◌, ℕ, ◌+◌, ◌*◌, ◌/◌, ◌%◌, ◌<◌, List, [], ◌∷◌, ◌++◌, length, drop, get_or, Ok, Err, refl, sym, ap, subst, ◌∙◌, inl, inr, arith}
+use Rattle.std.proofs.Common.{◌≡◌, ℕ, ◌/◌, ◌%◌, ◌<◌, List, [], ◌∷◌, ◌++◌, length, drop, get_or, refl, sym, ap, ◌∙◌, inl, inr, arith}
 use Rattle.std.proofs.lemmas.List.{length-append}
 use Rattle.readers.specs.declared.listing.command.Command.TheVariants.{Stop}
 use Rattle.review.specs.declared.file.kind.CommandKind.{CommandKind}
 use Rattle.review.specs.declared.file.kind.CommandKind.TheVariants as kind
-use Rattle.review.specs.declared.file.phase.Phase.TheVariants.{BeforeLeft, BeforeRight, AfterRight, AmongPairs, AfterEnd}
+use Rattle.review.specs.declared.file.phase.Phase.TheVariants.{AmongPairs}
 use Rattle.review.specs.Commands.{Command, left, right, rename, pair, end, first_byte, written, Sized}
 use Rattle.review.specs.Order.{Allowed}
 use Rattle.review.specs.Reviews.{Front}

@@ -15,11 +15,6 @@ use Rattle.review.specs.Reviews.{Meaning}
 abbrev pub Emptied : Meaning → Type 0
 Emptied m = (m.numbers ≡ in_order) × (m.pairs ≡ [])
 
--- what was filled in, or the fault that came in its way
-abbrev pub filled : Result (Unit {0}) FileFault → Meaning → Result Meaning FileFault
-filled (Ok u) m = Ok m
-filled (Err f) m = Err f
-
 -- a fault is carried whole
 abbrev pub carried : {F : Type 0} → (F → FileFault) → Result (Unit {0}) F → Result (Unit {0}) FileFault
 carried as_file (Ok u) = Ok u
