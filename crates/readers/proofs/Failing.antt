@@ -7,8 +7,8 @@ use Rattle.readers.specs.declared.listing.command.Command.TheVariants.{Stop, Pas
 use Rattle.readers.specs.declared.listing.fault.Wrong.{Wrong}
 use Rattle.readers.specs.declared.listing.fault.Wrong.TheVariants.{UnknownCommand, CutOff, UnknownLock}
 use Rattle.readers.specs.Bytes.{first, by_kind, with_lock, with_target, with_targets}
+use Rattle.readers.specs.Encoding.{highest}
 use Rattle.readers.specs.Flow.{most}
-use Rattle.readers.specs.Reading.{highest}
 use Rattle.readers.specs.Refusals.{operands, WrongThere}
 
 -- a command byte whose command cannot be taken off

@@ -5,9 +5,10 @@ use Rattle.readers.specs.declared.listing.fault.ListingFault.{ListingFault}
 use Rattle.readers.specs.declared.listing.fault.Wrong.{Wrong}
 use Rattle.readers.specs.declared.listing.fault.Wrong.TheVariants.{TooManyCommands, MissingTarget}
 use Rattle.readers.specs.Bytes.{first, width}
+use Rattle.readers.specs.Encoding.{highest}
 use Rattle.readers.specs.Faults.{fault}
 use Rattle.readers.specs.Flow.{most, inside, end_at, flow}
-use Rattle.readers.specs.Reading.{highest, given, go_on, broken, taken, run}
+use Rattle.readers.specs.Reading.{given, go_on, broken, taken, run}
 use Rattle.readers.specs.Items.{Item, item_then, items_from}
 use Rattle.readers.proofs.Spelling.{within}
 use Rattle.readers.proofs.Steps.{width_some, width_drop}

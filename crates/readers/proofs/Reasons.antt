@@ -8,11 +8,11 @@ use Rattle.readers.specs.declared.listing.fault.Wrong.{Wrong}
 use Rattle.readers.specs.declared.listing.fault.Wrong.TheVariants.{NoBytes, TooManyCommands, UnknownCommand, CutOff, UnknownLock, MissingTarget, RunsOffTheEnd}
 use Rattle.readers.specs.declared.listing.fault.ListingFault.{ListingFault}
 use Rattle.readers.specs.Bytes.{first, width}
-use Rattle.readers.specs.Encoding.{written, encode, LockIsKnown, LeadsInside}
+use Rattle.readers.specs.Encoding.{written, encode, LockIsKnown, LeadsInside, highest}
 use Rattle.readers.specs.Faults.{fault}
 use Rattle.readers.specs.Flow.{most, flow}
-use Rattle.readers.specs.Reading.{highest, given, broken, run, or_flow, refusal, listing}
-use Rattle.readers.specs.Refusals.{operands, WrongBytes, WholeRun, Refused, RefusalsHaveTheirReasons}
+use Rattle.readers.specs.Reading.{given, broken, run, or_flow, refusal, listing}
+use Rattle.readers.specs.Refusals.{operands, WrongBytes, WholeRun, Refused}
 use Rattle.readers.proofs.Steps.{broken_more, broken_many, broken_wrong}
 use Rattle.readers.proofs.Checks.{refusal_some}
 use Rattle.readers.proofs.Accepted.{few, some_command, bytes_written, locks_known}
@@ -42,7 +42,7 @@ told_some b bs f small (Err g) e h =
     stuck_refused f.wrong (b ∷ bs) f.at
     (stuck 0 0 0 (b ∷ bs) f (omega arith) small (e ∙ ap Err (same_fault g f h)))
 
-told : (bs : List ℕ) (f : ListingFault) → AllByRecursion (λ b. b < 256) bs → listing bs ≡ Err f → Refused f.wrong bs f.at
+pub told : (bs : List ℕ) (f : ListingFault) → AllByRecursion (λ b. b < 256) bs → listing bs ≡ Err f → Refused f.wrong bs f.at
 told [] f small h = subst (λ g. Refused g.wrong [] g.at) (same_fault (fault NoBytes 0) f h) (refl, refl)
 told (b ∷ bs) f small h =
     told_some b bs f small (broken 0 0 0 (b ∷ bs)) refl (given_fault (refusal (b ∷ bs)) (run 0 (b ∷ bs)) f h)
@@ -162,8 +162,5 @@ only_so RunsOffTheEnd bs place h =
     ∙ flow_on (length cs) (Ok tt) 0 o.front o.last (subst (AllByRecursion (LeadsInside (length cs))) o.split o.all_inside) o.on
     ∙ ap (λ p. Err (fault RunsOffTheEnd p)) there
 
-only : (bs : List ℕ) (f : ListingFault) → Refused f.wrong bs f.at → listing bs ≡ Err f
+pub only : (bs : List ℕ) (f : ListingFault) → Refused f.wrong bs f.at → listing bs ≡ Err f
 only bs f h = ap (λ r. given r (run 0 bs)) (only_so f.wrong bs f.at h)
-
-pub reasons : RefusalsHaveTheirReasons
-reasons = record { told = told; only = only }

@@ -8,7 +8,7 @@ use Rattle.readers.specs.declared.listing.command.Command.TheVariants.{Stop, Pas
 use Rattle.readers.specs.declared.listing.fault.Wrong.{Wrong}
 use Rattle.readers.specs.declared.listing.fault.Wrong.TheVariants.{UnknownCommand, CutOff, UnknownLock}
 use Rattle.readers.specs.Bytes.{first, by_kind, with_lock, with_target, with_targets, width}
-use Rattle.readers.specs.Reading.{highest}
+use Rattle.readers.specs.Encoding.{highest}
 
 -- the bytes begin with the command c
 abbrev pub Spelt : List ℕ → Command → Type 0

@@ -7,10 +7,10 @@ use Rattle.readers.specs.declared.listing.fault.Wrong.{Wrong}
 use Rattle.readers.specs.declared.listing.fault.Wrong.TheVariants.{NoBytes, TooManyCommands, UnknownCommand, CutOff, UnknownLock, MissingTarget, RunsOffTheEnd}
 use Rattle.readers.specs.declared.listing.fault.ListingFault.{ListingFault}
 use Rattle.readers.specs.Bytes.{first, width}
-use Rattle.readers.specs.Encoding.{written, encode, LockIsKnown}
+use Rattle.readers.specs.Encoding.{written, encode, LockIsKnown, highest}
 use Rattle.readers.specs.Faults.{fault}
 use Rattle.readers.specs.Flow.{most}
-use Rattle.readers.specs.Reading.{highest, go_on, broken}
+use Rattle.readers.specs.Reading.{go_on, broken}
 use Rattle.readers.specs.Refusals.{WrongThere, WrongBytes, Refused}
 use Rattle.readers.proofs.Spelling.{spelt}
 use Rattle.readers.proofs.Steps.{width_some, width_drop}

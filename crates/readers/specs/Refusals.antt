@@ -1,14 +1,12 @@
 -- Why bytes are refused, in the subject's words.
-use Rattle.std.specs.Prelude.{◌≡◌, ℕ, ◌<◌, ◌≤◌, cond, ◌⊎◌, List, [], ◌∷◌, ◌++◌, length, Err, ◌==◌, nat_lt}
+use Rattle.std.specs.Prelude.{◌≡◌, ℕ, ◌<◌, ◌≤◌, cond, ◌⊎◌, List, [], ◌∷◌, ◌++◌, length, ◌==◌, nat_lt}
 use Rattle.std.specs.List.{AllByRecursion}
 use Rattle.locks.specs.Limits.{lock_limit}
 use Rattle.readers.specs.declared.listing.command.Command.{Command}
 use Rattle.readers.specs.declared.listing.fault.Wrong.{Wrong}
 use Rattle.readers.specs.declared.listing.fault.Wrong.TheVariants.{NoBytes, TooManyCommands, UnknownCommand, CutOff, UnknownLock, MissingTarget, RunsOffTheEnd}
-use Rattle.readers.specs.declared.listing.fault.ListingFault.{ListingFault}
-use Rattle.readers.specs.Encoding.{encode, LockIsKnown, LeadsInside, MayEnd}
+use Rattle.readers.specs.Encoding.{highest, encode, LockIsKnown, LeadsInside, MayEnd}
 use Rattle.readers.specs.Flow.{most}
-use Rattle.readers.specs.Reading.{highest, listing}
 
 -- how many bytes of operands follow a command's byte
 abbrev pub operands : ℕ → ℕ
@@ -67,8 +65,3 @@ Refused CutOff bs at = WrongBytes CutOff bs at
 Refused UnknownLock bs at = WrongBytes UnknownLock bs at
 Refused MissingTarget bs at = (cs : List Command) × WholeRun bs cs × LeadsOutside cs at
 Refused RunsOffTheEnd bs at = (cs : List Command) × WholeRun bs cs × LeadsOn cs at
-
--- each refusal has its reason, and where the reason holds there is that refusal
-pub record RefusalsHaveTheirReasons : Type 0 where
-  pub told : (bs : List ℕ) (f : ListingFault) → AllByRecursion (λ b. b < 256) bs → listing bs ≡ Err f → Refused f.wrong bs f.at
-  pub only : (bs : List ℕ) (f : ListingFault) → Refused f.wrong bs f.at → listing bs ≡ Err f

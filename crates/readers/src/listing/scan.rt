@@ -1,7 +1,7 @@
 // Takes commands off the front of the bytes.
 ghost use Rattle.std.specs.Prelude.{◌≡◌, ◌+◌, ◌*◌};
 ghost use Rattle.readers.specs.Bytes.{Taken, lock_or};
-ghost use Rattle.readers.specs.Reading.{highest};
+ghost use Rattle.readers.specs.Encoding.{highest};
 
 use crate::listing::{Command, Wrong};
 use locks::sets::LOCKS;
