@@ -6,7 +6,7 @@ use Rattle.layers.specs.Numbers.{in_order}
 use Rattle.readers.specs.declared.listing.command.Command as listed
 use Rattle.readers.specs.declared.listing.command.Command.TheVariants.{Stop}
 use Rattle.readers.specs.Place.{commands_in}
-use Rattle.readers.specs.Reading.{listing}
+use Rattle.readers.specs.Saying.{ListingSays}
 use Rattle.search.specs.declared.threads.Pair.{Pair}
 use Rattle.layers.specs.declared.renamed.Renamed.{Renamed}
 use Rattle.readers.specs.declared.listing.place.Listing.{Listing}
@@ -59,14 +59,14 @@ pub record Written (bs : List ℕ) (m : Meaning) : Type 0 where
   pub renamings : List (List ℕ)
   pub whole : bs ≡ encode (file_commands left_bytes right_bytes renamings m.pairs)
   pub sized : AllByRecursion Sized (file_commands left_bytes right_bytes renamings m.pairs)
-  pub lefts : listing left_bytes ≡ Ok m.lefts
-  pub rights : listing right_bytes ≡ Ok m.rights
+  pub lefts : ListingSays left_bytes (Ok m.lefts)
+  pub rights : ListingSays right_bytes (Ok m.rights)
   pub numbers : NumbersFrom renamings m.numbers
 
 -- the section of a command is well formed
 abbrev pub Sound : Command → Type 0
-Sound (left bs) = (cs : List listed.Command) × (listing bs ≡ Ok cs)
-Sound (right bs) = (cs : List listed.Command) × (listing bs ≡ Ok cs)
+Sound (left bs) = (cs : List listed.Command) × ListingSays bs (Ok cs)
+Sound (right bs) = (cs : List listed.Command) × ListingSays bs (Ok cs)
 Sound (rename ns) = NumbersAnswer ns (Ok tt)
 Sound (pair a b) = Unit {0}
 Sound end = Unit {0}
@@ -97,8 +97,8 @@ FileSays bs (Err (EndsEarly at)) =
 FileSays bs (Err (NotAllowed at)) =
     (length bs ≤ most_bytes)
     × ((cs : List Command) × (rest : List ℕ) × Front bs cs rest × Forbidden (phase_behind BeforeLeft cs) rest × (at ≡ length (encode cs)))
-FileSays bs (Err (InLeft f place)) = (length bs ≤ most_bytes) × ((l : List ℕ) × FaultIn bs (left l) place × (listing l ≡ Err f))
-FileSays bs (Err (InRight f place)) = (length bs ≤ most_bytes) × ((l : List ℕ) × FaultIn bs (right l) place × (listing l ≡ Err f))
+FileSays bs (Err (InLeft f place)) = (length bs ≤ most_bytes) × ((l : List ℕ) × FaultIn bs (left l) place × ListingSays l (Err f))
+FileSays bs (Err (InRight f place)) = (length bs ≤ most_bytes) × ((l : List ℕ) × FaultIn bs (right l) place × ListingSays l (Err f))
 FileSays bs (Err (InNames f place)) = (length bs ≤ most_bytes) × ((ns : List ℕ) × FaultIn bs (rename ns) place × NumbersAnswer ns (Err f))
 
 -- what was filled in, or the fault that came in its way
@@ -119,6 +119,6 @@ FilesReadBack =
     (l r : List ℕ) (renamings : List (List ℕ)) (pairs : List Pair) (lefts rights : List listed.Command) (ns : List ℕ) (q : Result Meaning FileFault)
     → length (encode (file_commands l r renamings pairs)) ≤ most_bytes
     → AllByRecursion Sized (file_commands l r renamings pairs)
-    → listing l ≡ Ok lefts → listing r ≡ Ok rights → NumbersFrom renamings ns
+    → ListingSays l (Ok lefts) → ListingSays r (Ok rights) → NumbersFrom renamings ns
     → FileSays (encode (file_commands l r renamings pairs)) q
     → q ≡ Ok (record { lefts = lefts; rights = rights; numbers = ns; pairs = pairs })
