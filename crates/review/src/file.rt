@@ -1,4 +1,5 @@
 // A review file: LEFT and RIGHT with a listing each, at most one RENAME, any number of PAIR, and END.
+mod content;
 mod fault;
 mod kind;
 mod laws;
