@@ -9,7 +9,7 @@ mod scan;
 #[cfg(test)]
 mod tests;
 
-pub use command::Command;
+pub use command::{Command, MOST_COMMANDS};
 pub use fault::{ListingFault, Wrong};
 pub use laws::{bytes_say_one_listing, listings_mean_their_commands};
 pub use place::Listing;

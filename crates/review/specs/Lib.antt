@@ -16,4 +16,5 @@ pub mod Sections
 pub mod SinglePair
 pub mod Taking
 pub mod Telling
+pub mod Words
 pub mod WorkedFiles

@@ -8,6 +8,7 @@ mod reader;
 mod review;
 mod section;
 mod taking;
+mod words;
 
 pub use fault::{FileFault, Within};
 pub use laws::{files_read_back, sections_stand_behind_headers, worked_file_is_its_bytes};

@@ -2,7 +2,7 @@
 mod fault;
 mod laws;
 mod line;
-mod putting;
+pub(crate) mod putting;
 mod writing;
 
 pub use fault::LineFault;
