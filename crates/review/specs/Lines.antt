@@ -5,6 +5,8 @@ use Rattle.std.specs.List.{flat_map}
 use Rattle.locks.specs.declared.together.Side.TheVariants.{Left, Right}
 use Rattle.locks.specs.Limits.{first_right}
 use Rattle.locks.specs.Moves.{number_of}
+use Rattle.pairs.specs.Answers.{ask_refusal}
+use Rattle.pairs.specs.declared.answers.AskFault.TheVariants.{NoLocation}
 use Rattle.search.specs.declared.threads.Pair.{Pair}
 use Rattle.review.specs.declared.file.fault.Within.{Within}
 use Rattle.review.specs.FileFaults.{within_name}
@@ -44,8 +46,12 @@ refused_text number place within =
 abbrev pub never_text : Pair → List ℕ
 never_text p = pair_text p ++ codes "never"
 
+-- the number of the refusal of a pair for a missing location, which is the same on both sides
+abbrev pub missing_number : ℕ
+missing_number = (ask_refusal (NoLocation Left)).number
+
 abbrev pub missing_text : Pair → List ℕ
-missing_text p = pair_text p ++ codes "refused 17"
+missing_text p = (pair_text p ++ codes "refused ") ++ decimal missing_number
 
 -- what a line says, without its newline
 abbrev pub said : Line → List ℕ

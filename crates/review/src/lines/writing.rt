@@ -1,11 +1,13 @@
 // Writing a line into lent space.
 ghost use Rattle.std.specs.Prelude.{◌≡◌, length};
 ghost use Rattle.review.specs.Limits.{counted};
-ghost use Rattle.review.specs.Lines.{pair_text, reached_text, refused_text, line_text, Filled, LineWritten};
+ghost use Rattle.review.specs.Lines.{pair_text, reached_text, missing_number, missing_text, refused_text, line_text, Filled, LineWritten};
 
 use crate::file::Within;
 use crate::lines::putting::{put, put_moves, put_number};
 use crate::lines::{Line, LineFault};
+use locks::together::Side;
+use pairs::answers::AskFault;
 use search::threads::Pair;
 
 impl Line<'_> {
@@ -37,10 +39,7 @@ impl Line<'_> {
                 let end = put_pair(space, pair);
                 put(space, end, b"never")
             }
-            Line::Missing { pair } => {
-                let end = put_pair(space, pair);
-                put(space, end, b"refused 17")
-            }
+            Line::Missing { pair } => put_missing(space, pair),
             Line::Refused {
                 number,
                 place,
@@ -59,6 +58,21 @@ fn put_reached(space: &mut [u8], pair: Pair, moves: &[u16]) -> usize
     let end = put_number(space, end, moves.len() as u64);
     let end = put(space, end, b":");
     put_moves(space, end, moves)
+}
+
+fn put_missing(space: &mut [u8], pair: Pair) -> usize
+    ensures { Filled space.old (missing_text pair) space.new result }
+{
+    let end = put_pair(space, pair);
+    let end = put(space, end, b"refused ");
+    put_number(space, end, u64::from(missing_number()))
+}
+
+// The number of the refusal of a pair for a missing location, which is the same on both sides.
+fn missing_number() -> u8
+    ensures { result ≡ missing_number }
+{
+    AskFault::NoLocation(Side::Left).refusal().number
 }
 
 fn put_refused(space: &mut [u8], number: u8, place: usize, within: Within) -> usize
