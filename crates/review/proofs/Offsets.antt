@@ -37,11 +37,11 @@ in_run bs cs front back at whole split place =
 own_place : (w : Wrong) (bs : List ℕ) (at : ℕ) → Refused w bs at → at ≤ length bs
 own_place wrong.NoBytes bs at h = let none = h.1 in omega arith
 own_place wrong.TooManyCommands bs at h = in_bytes _ bs at h
-own_place wrong.UnknownCommand bs at h = in_bytes _ bs at h
-own_place wrong.CutOff bs at h = in_bytes _ bs at h
-own_place wrong.UnknownLock bs at h = in_bytes _ bs at h
-own_place wrong.MissingTarget bs at h = let o = h.2 in in_run bs h.0 o.front (o.outside ∷ o.back) at h.1.whole o.split o.place
-own_place wrong.RunsOffTheEnd bs at h = let o = h.2 in in_run bs h.0 o.front _ at h.1.whole o.split o.place
+own_place (wrong.UnknownCommand b) bs at h = in_bytes _ bs at h
+own_place (wrong.CutOff b) bs at h = in_bytes _ bs at h
+own_place (wrong.UnknownLock c) bs at h = in_bytes _ bs at h
+own_place (wrong.MissingTarget c) bs at h = let o = h.2 in in_run bs h.0 o.front (c ∷ o.back) at h.1.whole o.split o.place
+own_place (wrong.RunsOffTheEnd c) bs at h = let o = h.2 in in_run bs h.0 o.front _ at h.1.whole o.split o.place
 
 -- an offset in a file is counted as it is
 counted_whole : (n : ℕ) → n ≤ most_bytes → counted n ≡ n
