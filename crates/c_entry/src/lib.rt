@@ -1,16 +1,16 @@
 // The entry for C programs.
 #![tactic(auto)]
 
-ghost use Rattle.std.specs.Prelude.{◌≡◌};
-ghost use Rattle.c_entry.specs.CNumbers.{c_number, CAnswers, FewMoves};
+ghost use Rattle.std.specs.Prelude.{◌≡◌, ◌≢◌};
+ghost use Rattle.c_entry.specs.CNumbers.{c_number, no_memory, ByRoom, CAnswers, FewMoves};
 
 use locks::refusals::Refusal;
 use pairs::answers::Verdict;
-use review::entry::verdict;
+use review::entry::{VerdictRoom, verdict};
 use search::threads::Pair;
-use std::alloc::Global;
+use std::alloc::{AllocError, Global};
 
-// The answer to want of memory, which no refusal is.
+// The answer where memory is out, which no refusal is.
 const NO_MEMORY: i64 = i64::MIN;
 
 // Of two listings and a pair: the count of moves, -1 for never, or -(100 + number) for a refusal. The moves go to the
@@ -30,15 +30,29 @@ pub extern "C" fn pair_verdict(
         left: left_location,
         right: right_location,
     };
-    match verdict(heap, left, right, pair, moves) {
-        Ok(answer) => number(answer),
+    answer(VerdictRoom::new(heap), left, right, pair, moves)
+}
+
+// Once the room is there memory is never out.
+fn answer(
+    room: Result<VerdictRoom, AllocError>,
+    left: &[u8],
+    right: &[u8],
+    pair: Pair,
+    moves: &mut [u8],
+) -> i64
+    ensures { ByRoom room left.now right.now pair moves.old result moves.new }
+{
+    match room {
+        Ok(room) => number(verdict(room, left, right, pair, moves)),
         Err(_) => NO_MEMORY,
     }
 }
 
 fn number(answer: Result<Verdict, Refusal>) -> i64
     requires { FewMoves answer }
-    ensures { result ≡ c_number answer }
+    ensures value { result ≡ c_number answer }
+    ensures told { result ≢ no_memory }
 {
     match answer {
         Ok(Verdict::Reached(count)) => count as i64,

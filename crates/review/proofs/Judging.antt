@@ -1,9 +1,9 @@
 -- What the answers to the calls of a review say of its threads and its pairs.
-use Rattle.std.proofs.Common.{◌≡◌, ℕ, zero, suc, ◌+◌, ◌-◌, ◌<◌, ◌≤◌, ◌⊎◌, false, List, [], ◌∷◌, ◌++◌, map, length, take, drop, replicate, Some, None, Option, Ok, Err, Result, vec_items, sym, refl, ap, subst, ◌∙◌, inl, inr, append-nil, arith}
+use Rattle.std.proofs.Common.{◌≡◌, ℕ, zero, suc, ◌+◌, ◌-◌, ◌<◌, ◌≤◌, ◌⊎◌, false, List, [], ◌∷◌, ◌++◌, map, length, take, drop, Some, None, Option, Ok, Err, Result, vec_items, sym, refl, ap, subst, ◌∙◌, inl, inr, append-nil, arith}
 use Rattle.std.specs.Prelude.{IfOk}
 use Rattle.std.specs.List.{slice_get, flat_map}
 use Rattle.std.specs.Option.{option_map}
-use Rattle.std.proofs.lemmas.List.{length-map, length-take-le, length-replicate, length-drop, take_all}
+use Rattle.std.proofs.lemmas.List.{length-map, length-take-le, length-drop, take_all}
 use Rattle.std.proofs.lemmas.Option.{slice_get-map}
 use Rattle.locks.specs.declared.refusals.Refusal.{Refusal}
 use Rattle.locks.specs.declared.together.Side.{Side}
@@ -41,24 +41,24 @@ use Rattle.review.proofs.Picking.{as_many_picked, picked_at}
 
 -- asks leave the folders as they are
 
-no_put : (w : WhichFolder) (ps : List Pair) (m i : ℕ) → flat_map (put_by w) (take i (asks_of ps m)) ≡ []
-no_put w ps m zero = refl
-no_put w [] m (suc i) = refl
-no_put w (p ∷ ps) m (suc i) = no_put w ps m i
+no_put : (w : WhichFolder) (ps : List Pair) (lent : List ℕ) (i : ℕ) → flat_map (put_by w) (take i (asks_of ps lent)) ≡ []
+no_put w ps lent zero = refl
+no_put w [] lent (suc i) = refl
+no_put w (p ∷ ps) lent (suc i) = no_put w ps lent i
 
-none_renews : (w : WhichFolder) (ps : List Pair) (m i k : ℕ) (c : CallMeaning) → slice_get (take i (asks_of ps m)) k ≡ Some c → renews w c ≡ false
-none_renews w ps m zero k c e = cc
-none_renews w [] m (suc i) k c e = cc
-none_renews w (p ∷ ps) m (suc i) zero c e = let is : ask (question_of p) (replicate m 0) ≡ c = cc in subst (λ x. renews w x ≡ false) is refl
-none_renews w (p ∷ ps) m (suc i) (suc k) c e = none_renews w ps m i k c e
+none_renews : (w : WhichFolder) (ps : List Pair) (lent : List ℕ) (i k : ℕ) (c : CallMeaning) → slice_get (take i (asks_of ps lent)) k ≡ Some c → renews w c ≡ false
+none_renews w ps lent zero k c e = cc
+none_renews w [] lent (suc i) k c e = cc
+none_renews w (p ∷ ps) lent (suc i) zero c e = let is : ask (question_of p) lent ≡ c = cc in subst (λ x. renews w x ≡ false) is refl
+none_renews w (p ∷ ps) lent (suc i) (suc k) c e = none_renews w ps lent i k c e
 
-module _ (G H : Graph) (ps : List Pair) (m : ℕ) where
+module _ (G H : Graph) (ps : List Pair) (lent : List ℕ) where
   -- the calls before the ask of pair i
   abbrev before : ℕ → List CallMeaning
-  before i = summarise First ∷ summarise Second ∷ take i (asks_of ps m)
+  before i = summarise First ∷ summarise Second ∷ take i (asks_of ps lent)
 
   stays : (w : WhichFolder) (i : ℕ) → in_force w G H (before i) ≡ by_which G H w
-  stays w i = ap (last_of (by_which G H w)) (no_put w ps m i)
+  stays w i = ap (last_of (by_which G H w)) (no_put w ps lent i)
 
   done : (w : WhichFolder) (i : ℕ) → (j : ℕ) × SummarisedBy w (before i) j
   done First i = (0, record { call = refl; last = after })
@@ -66,13 +66,13 @@ module _ (G H : Graph) (ps : List Pair) (m : ℕ) where
       after : (k : ℕ) (c : CallMeaning) → 0 < k → slice_get (before i) k ≡ Some c → renews First c ≡ false
       after zero c h e = absurd (omega arith)
       after (suc zero) c h e = let is : summarise Second ≡ c = cc in subst (λ x. renews First x ≡ false) is refl
-      after (suc (suc k)) c h e = none_renews First ps m i k c e
+      after (suc (suc k)) c h e = none_renews First ps lent i k c e
   done Second i = (1, record { call = refl; last = after })
     where
       after : (k : ℕ) (c : CallMeaning) → 1 < k → slice_get (before i) k ≡ Some c → renews Second c ≡ false
       after zero c h e = absurd (omega arith)
       after (suc zero) c h e = absurd (omega arith)
-      after (suc (suc k)) c h e = none_renews Second ps m i k c e
+      after (suc (suc k)) c h e = none_renews Second ps lent i k c e
 
   ready : (w : WhichFolder) (i : ℕ) → Accepted (by_which G H w) → IsSummarised w G H (before i)
   ready w i a = (done w i, subst Accepted (sym (stays w i)) a)
@@ -84,7 +84,7 @@ module _ (G H : Graph) (ps : List Pair) (m : ℕ) where
   -- what an ask of pair i says: both folders have a summary
   abbrev pub Asked : ℕ → Pair → asking.Answer → List ℕ → Type 0
   Asked i p r after =
-      Answered (λ s. IsSummarised (folder_at (question_of p) s) G H (before i)) (λ s. NotSummarised (folder_at (question_of p) s) G H (before i)) G H p.left p.right (replicate m 0) r after
+      Answered (λ s. IsSummarised (folder_at (question_of p) s) G H (before i)) (λ s. NotSummarised (folder_at (question_of p) s) G H (before i)) G H p.left p.right lent r after
 
   pub no_summary_missing : {X : Type 0} (i : ℕ) (p : Pair) (s : Side) (after : List ℕ) → Accepted G → Accepted H → Asked i p (Err (NoSummary s)) after → X
   no_summary_missing i p Left after a b h = not_lacking First i a h.says
@@ -100,25 +100,24 @@ module _ (G H : Graph) (ps : List Pair) (m : ℕ) where
   pub bounded : (i : ℕ) (p : Pair) (r : asking.Answer) (n : ℕ) (after : List ℕ) → Accepted G → Accepted H → Asked i p r after → LeastLength G H p.left p.right n → n ≤ longest
   bounded i p r n after a b h least = h.not_long (ready First i a) (ready Second i b) n least
 
-  pub not_too_short : (i : ℕ) (p : Pair) (n : ℕ) (after : List ℕ) → Accepted G → Accepted H → Asked i p (Err (TooShort n)) after → m < longest
+  pub not_too_short : (i : ℕ) (p : Pair) (n : ℕ) (after : List ℕ) → Accepted G → Accepted H → Asked i p (Err (TooShort n)) after → length lent < longest
   not_too_short i p n after a b h =
       let s = h.says in
       let bound = bounded i p (Err (TooShort n)) n after a b h s.3 in
-      let many : length (replicate {A = ℕ} m 0) ≡ m = length-replicate {A = ℕ} m 0 in
       let past = s.4 in
       omega arith
 
 -- the line of an answer, where the lists are long enough
-pair_line : (G H : Graph) (ps : List Pair) (i : ℕ) (p : Pair) (r : asking.Answer) (after : List ℕ) → Accepted G → Accepted H → Asked G H ps longest i p r after → PairLine G H p (told p (asked (numbered ask_refusal r) after))
-pair_line G H ps i p (Ok Never) after a b h = let s = h.says in inr (inl (s.2, s.3, refl))
-pair_line G H ps i p (Ok (Reached n)) after a b h =
+pair_line : (G H : Graph) (ps : List Pair) (lent : List ℕ) → length lent ≡ longest → (i : ℕ) (p : Pair) (r : asking.Answer) (after : List ℕ) → Accepted G → Accepted H → Asked G H ps lent i p r after → PairLine G H p (told p (asked (numbered ask_refusal r) after))
+pair_line G H ps lent long i p (Ok Never) after a b h = let s = h.says in inr (inl (s.2, s.3, refl))
+pair_line G H ps lent long i p (Ok (Reached n)) after a b h =
     let s = h.says in
-    let many = many_moves G H ps longest i p n after h in
-    let few = bounded G H ps longest i p (Ok (Reached n)) n after a b h s.3 in
+    let many = many_moves G H ps lent i p n after h in
+    let few = bounded G H ps lent i p (Ok (Reached n)) n after a b h s.3 in
     inr (inr (take n after, s.2, (h.moves, subst (LeastLength G H p.left p.right) (sym many) s.3), (let low : length (take n after) ≤ longest = omega arith in low), refl))
-pair_line G H ps i p (Err (NoSummary s)) after a b h = no_summary_missing G H ps longest i p s after a b h
-pair_line G H ps i p (Err (NoLocation s)) after a b h = inl (s, h.says.2, refl)
-pair_line G H ps i p (Err (TooShort n)) after a b h = let short = not_too_short G H ps longest i p n after a b h in absurd (omega arith)
+pair_line G H ps lent long i p (Err (NoSummary s)) after a b h = no_summary_missing G H ps lent i p s after a b h
+pair_line G H ps lent long i p (Err (NoLocation s)) after a b h = inl (s, h.says.2, refl)
+pair_line G H ps lent long i p (Err (TooShort n)) after a b h = let short = not_too_short G H ps lent i p n after a b h in absurd (omega arith)
 
 -- a run of these calls
 
@@ -180,18 +179,18 @@ in_lines : (ls : List Line) → lines_text ls ≡ flat_map (λ line. line) (map 
 in_lines [] = refl
 in_lines (l ∷ ls) = ap (λ xs. line_text l ++ xs) (in_lines ls)
 
-module _ {A B : Type 0} (f : A → Graph) (g : B → Graph) (a : A) (b : B) (cs : List (Call A B)) (ran : Outcome A B) (right : RunRight f g a b cs ran) (ps : List Pair) (m : ℕ) (script : map (call_meaning f g) cs ≡ review_calls ps m) where
+module _ {A B : Type 0} (f : A → Graph) (g : B → Graph) (a : A) (b : B) (cs : List (Call A B)) (ran : Outcome A B) (right : RunRight f g a b cs ran) (ps : List Pair) (lent : List ℕ) (script : map (call_meaning f g) cs ≡ review_calls ps lent) where
   abbrev answers : List (Answer A B)
   answers = vec_items ran.answers
 
-  rules : KeepsTheRules (f a) (g b) (review_calls ps m) (map (means f g) answers) right.tables
+  rules : KeepsTheRules (f a) (g b) (review_calls ps lent) (map (means f g) answers) right.tables
   rules = subst (λ c. KeepsTheRules (f a) (g b) c (map (means f g) answers) right.tables) script right.rules
 
   pub as_many : length answers ≡ length ps + 2
   as_many =
       let all = rules.as_many in
       let long = length-map answers (means f g) in
-      let asks = length-map ps (λ p. ask (question_of p) (replicate m 0)) in
+      let asks = length-map ps (λ p. ask (question_of p) lent) in
       omega arith
 
   answer_is : (n : ℕ) (x : Answer A B) → slice_get answers n ≡ Some x → slice_get (map (means f g) answers) n ≡ Some (means f g x)
@@ -203,18 +202,18 @@ module _ {A B : Type 0} (f : A → Graph) (g : B → Graph) (a : A) (b : B) (cs 
   right_summary : (x : Answer A B) → slice_get answers 1 ≡ Some x → Summed f g (g b) x
   right_summary x e = let rule = rules.each 1 (summarise Second) (means f g x) refl (answer_is 1 x e) in by_answer f g (g b) x rule.0 _ rule.1 rule.2
 
-  pub asked_of : (i : ℕ) (p : Pair) (x : Answer A B) → slice_get ps i ≡ Some p → slice_get answers (suc (suc i)) ≡ Some x → (r : asking.Answer) × (after : List ℕ) × (means f g x ≡ asked (numbered ask_refusal r) after) × Asked (f a) (g b) ps m i p r after
+  pub asked_of : (i : ℕ) (p : Pair) (x : Answer A B) → slice_get ps i ≡ Some p → slice_get answers (suc (suc i)) ≡ Some x → (r : asking.Answer) × (after : List ℕ) × (means f g x ≡ asked (numbered ask_refusal r) after) × Asked (f a) (g b) ps lent i p r after
   asked_of i p x e h =
       let q = question_of p in
-      let call = slice_get-map (λ r. ask (question_of r) (replicate m 0)) ps i ∙ ap (option_map (λ r. ask (question_of r) (replicate m 0))) e in
-      let rule = rules.each (suc (suc i)) (ask q (replicate m 0)) (means f g x) call (answer_is (suc (suc i)) x h) in
-      let has = λ (s : Side). IsSummarised (folder_at q s) (f a) (g b) (before (f a) (g b) ps m i) in
-      let lacks = λ (s : Side). NotSummarised (folder_at q s) (f a) (g b) (before (f a) (g b) ps m i) in (
+      let call = slice_get-map (λ r. ask (question_of r) lent) ps i ∙ ap (option_map (λ r. ask (question_of r) lent)) e in
+      let rule = rules.each (suc (suc i)) (ask q lent) (means f g x) call (answer_is (suc (suc i)) x h) in
+      let has = λ (s : Side). IsSummarised (folder_at q s) (f a) (g b) (before (f a) (g b) ps lent i) in
+      let lacks = λ (s : Side). NotSummarised (folder_at q s) (f a) (g b) (before (f a) (g b) ps lent i) in (
         rule.0,
         rule.1,
         rule.2,
-        subst (λ K. Answered has lacks (f a) K p.left p.right (replicate m 0) rule.0 rule.1) (stays (f a) (g b) ps m Second i)
-            (subst (λ K. Answered has lacks K (in_force Second (f a) (g b) (before (f a) (g b) ps m i)) p.left p.right (replicate m 0) rule.0 rule.1) (stays (f a) (g b) ps m First i) rule.3),
+        subst (λ K. Answered has lacks (f a) K p.left p.right lent rule.0 rule.1) (stays (f a) (g b) ps lent Second i)
+            (subst (λ K. Answered has lacks K (in_force Second (f a) (g b) (before (f a) (g b) ps lent i)) p.left p.right lent rule.0 rule.1) (stays (f a) (g b) ps lent First i) rule.3),
       )
 
   some_answer : 2 ≤ length answers
@@ -259,7 +258,7 @@ of_some : {X Y : Type 0} (f : X → Y) (o : Option X) (y : Y) → option_map f o
 of_some f (Some x) y h = (x, refl, let same : y ≡ f x = cc in same)
 of_some f None y h = cc
 
-module _ {A B : Type 0} (f : A → Graph) (g : B → Graph) (a : A) (b : B) (cs : List (Call A B)) (ran : Outcome A B) (right : RunRight f g a b cs ran) (ps : List Pair) (script : map (call_meaning f g) cs ≡ review_calls ps longest) where
+module _ {A B : Type 0} (f : A → Graph) (g : B → Graph) (a : A) (b : B) (cs : List (Call A B)) (ran : Outcome A B) (right : RunRight f g a b cs ran) (ps : List Pair) (lent : List ℕ) (long : length lent ≡ longest) (script : map (call_meaning f g) cs ≡ review_calls ps lent) where
   abbrev behind : List (Answer A B)
   behind = drop 2 (vec_items ran.answers)
 
@@ -267,9 +266,9 @@ module _ {A B : Type 0} (f : A → Graph) (g : B → Graph) (a : A) (b : B) (cs 
   each_line ls one two tell i p line e h =
       let at = told_at ps (map (means f g) behind) ls i p line tell e h in
       let x = of_some (means f g) (slice_get behind i) at.0 (sym (slice_get-map (means f g) behind i) ∙ at.1) in
-      let asked_so = asked_of f g a b cs ran right ps longest script i p x.0 e (sym (behind_two (vec_items ran.answers) i) ∙ x.1) in
+      let asked_so = asked_of f g a b cs ran right ps lent script i p x.0 e (sym (behind_two (vec_items ran.answers) i) ∙ x.1) in
       let line_is : line ≡ told p (asked (numbered ask_refusal asked_so.0) asked_so.1) = at.2 ∙ ap (told p) (x.2 ∙ asked_so.2) in
-      subst (PairLine (f a) (g b) p) (sym line_is) (pair_line (f a) (g b) ps i p asked_so.0 asked_so.1 one two asked_so.3)
+      subst (PairLine (f a) (g b) p) (sym line_is) (pair_line (f a) (g b) ps lent long i p asked_so.0 asked_so.1 one two asked_so.3)
 
   module _ (pairs : List Pair) (ns : List ℕ) (places : Picks ps ns pairs) where
     -- the line of a pair is the one of its ask
@@ -292,7 +291,7 @@ module _ {A B : Type 0} (f : A → Graph) (g : B → Graph) (a : A) (b : B) (cs 
 
     -- what is told of a run's answers is what is to be said of its graphs
     pub told_says : (text : List ℕ) → Told ps ns (vec_items ran.answers) text → ReviewSays (f a) (g b) pairs text
-    told_says text t = by_summaries f g a b cs ran right ps longest script (RefusalPrinted text) _ (PairLines (f a) (g b) pairs text) (λ one two x. picked_lines x.0 x.1 text one two (x.2 f g) x.3 x.4) t
+    told_says text t = by_summaries f g a b cs ran right ps lent script (RefusalPrinted text) _ (PairLines (f a) (g b) pairs text) (λ one two x. picked_lines x.0 x.1 text one two (x.2 f g) x.3 x.4) t
 
 -- a report of one line, and a report by the meaning of a review
 

@@ -4,7 +4,7 @@ use Rattle.std.specs.List.{slice_get, flat_map}
 use Rattle.locks.specs.declared.refusals.Refusal.{Refusal}
 use Rattle.locks.specs.declared.together.Side.{Side}
 use Rattle.locks.specs.Graphs.{Graph}
-use Rattle.pairs.specs.Answers.{ask_refusal}
+use Rattle.pairs.specs.Answers.{ask_refusal, longest}
 use Rattle.pairs.specs.declared.answers.AskFault.TheVariants.{NoLocation, TooShort}
 use Rattle.pairs.specs.declared.answers.Verdict.{Verdict}
 use Rattle.pairs.specs.declared.answers.Verdict.TheVariants.{Never, Reached}
@@ -16,9 +16,15 @@ use Rattle.readers.specs.Graph.{listing_graph}
 use Rattle.readers.specs.Reading.{listing}
 use Rattle.runs.specs.declared.calls.Answer.{Answer}
 use Rattle.runs.specs.declared.calls.Answer.TheVariants as back
+use Rattle.runs.specs.Scripts.{written, blank}
 use Rattle.search.specs.declared.threads.Pair.{Pair}
+use Rattle.review.specs.declared.entry.room.VerdictRoom.{VerdictRoom}
 use Rattle.review.specs.Asking.{ByAnswers}
 use Rattle.review.specs.Cases.{BySummaries, ByPair}
+
+-- there is room for three calls, which are none yet, and the list has a place for each move of a shortest schedule
+abbrev pub RoomMade : VerdictRoom → Type 0
+RoomMade room = (written room.script ≡ blank 3) × (length (vec_items room.list) ≡ longest)
 
 -- each move is two bytes, the higher first
 abbrev pub moves_bytes : List ℕ → List ℕ

@@ -1,6 +1,9 @@
 // Which calls a review makes, and which refusals of summaries their answers tell.
-ghost use Rattle.std.specs.Prelude.{◌≡◌, IfOk};
-ghost use Rattle.review.specs.Asking.{question_of, ScriptSays, Refuses};
+ghost use Rattle.std.specs.Prelude.{◌≡◌, ◌+◌, ◌<◌, ◌≤◌, [], ◌∷◌, ◌++◌, length, replicate, vec_items, IfOk};
+ghost use Rattle.runs.specs.declared.calls.Call.TheVariants as code;
+ghost use Rattle.runs.specs.declared.calls.WhichFolder.TheVariants as which;
+ghost use Rattle.runs.specs.Scripts.{written};
+ghost use Rattle.review.specs.Asking.{question_of, more_calls, ScriptSays, Refuses};
 
 use locks::refusals::Refusal;
 use runs::calls::{Answer, Call, Question, Site, WhichFolder};
@@ -14,16 +17,40 @@ pub(crate) fn script<A: Drop, B: Drop>(
     pairs: &[Pair],
     places: usize,
 ) -> Result<Script<A, B>, AllocError>
-    ensures { IfOk result (λ s. ScriptSays s pairs.now places) }
+    ensures { IfOk result (λ s. ScriptSays s pairs.now (replicate places 0)) }
 {
     let mut script = Script::new(heap, pairs.len() + 2)?;
-    let _ = script.add(Call::Summarise(WhichFolder::First));
-    let _ = script.add(Call::Summarise(WhichFolder::Second));
+    add_summaries(&mut script);
     for pair in pairs {
         let list = vec![in heap; 0; places]?;
-        let _ = script.add(Call::Ask(question(*pair), list));
+        add_ask(&mut script, *pair, list);
     }
     Ok(script)
+}
+
+// Both summaries, in a script that has room for two calls more.
+pub(crate) fn add_summaries<A: Drop, B: Drop>(script: &mut Script<A, B>)
+    requires { length (written script.old).calls + 2 ≤ (written script.old).most }
+    ensures { written script.new ≡ more_calls (written script.old) (code.Summarise which.First ∷ code.Summarise which.Second ∷ []) }
+{
+    add(script, Call::Summarise(WhichFolder::First));
+    add(script, Call::Summarise(WhichFolder::Second));
+}
+
+// A pair with the list for its moves, in a script that has room for a call more.
+pub(crate) fn add_ask<A: Drop, B: Drop>(script: &mut Script<A, B>, pair: Pair, list: Vec<u16>)
+    requires { length (written script.old).calls < (written script.old).most }
+    ensures { written script.new ≡ more_calls (written script.old) (code.Ask (question_of pair) list ∷ []) }
+{
+    add(script, Call::Ask(question(pair), list));
+}
+
+fn add<A: Drop, B: Drop>(script: &mut Script<A, B>, call: Call<A, B>)
+    requires { length (written script.old).calls < (written script.old).most }
+    ensures { written script.new ≡ more_calls (written script.old) (call ∷ []) }
+{
+    // There is room, so the call does not come back.
+    let _ = script.add(call);
 }
 
 // The left location is of the first folder, the right one of the second.

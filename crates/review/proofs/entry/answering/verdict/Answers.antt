@@ -1,7 +1,17 @@
-use Rattle.std.proofs.Common.{inr}
-use Rattle.review.proofs.Entering.{was_read}
-use Rattle.review.proofs.Judging.{if_ok}
+use Rattle.std.proofs.Common.{refl, ap, inl, inr, ◌∙◌, Err}
+use Rattle.std.proofs.lemmas.Result.{err_from_is_err_and}
+use Rattle.review.proofs.Entering.{was_read, was_refused}
 use Rattle.review.proofs.entry.answering.verdict.Goals as goal
 
-pub returns-clause-says : goal.returns-clause-says
-returns-clause-says c = if_ok c.judge.result c.judge.ensures.says (λ answer says. inr (inr (_, _, was_read _ _ _ c.in_default.ensures.reads, was_read _ _ _ c.in_default-read.ensures.reads, says)))
+pub returns-in_err-read : goal.returns-in_err-read
+returns-in_err-read c =
+    let told = err_from_is_err_and c.from_residual.result c.from_residual.ensures.1 in
+    inl (_, was_refused _ _ _ _ c.in_err-read.ensures.reads, told.1 ∙ ap (λ r. Err r) told.2, refl)
+
+pub returns-in_err-read-2 : goal.returns-in_err-read-2
+returns-in_err-read-2 c =
+    let told = err_from_is_err_and c.from_residual-in_err-read-2.result c.from_residual-in_err-read-2.ensures.1 in
+    inr (inl (_, _, was_read _ _ _ c.in_ok-read.ensures.reads, was_refused _ _ _ _ c.in_err-read-2.ensures.reads, told.1 ∙ ap (λ r. Err r) told.2, refl))
+
+pub returns : goal.returns
+returns c = inr (inr (_, _, was_read _ _ _ c.in_ok-read.ensures.reads, was_read _ _ _ c.in_ok-read-2.ensures.reads, c.judge.ensures))

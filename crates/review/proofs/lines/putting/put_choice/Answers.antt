@@ -1,5 +1,4 @@
-use Rattle.std.proofs.Common.{◌≡◌, ◌∷◌, [], ◌++◌, sym, ap}
-use Rattle.std.specs.Fmt.{decimal}
+use Rattle.std.proofs.Common.{◌∷◌, [], sym}
 use Rattle.std.proofs.lemmas.Fmt.{decimal_digit}
 use Rattle.review.proofs.Filling.{joined}
 use Rattle.review.proofs.lines.putting.put_choice.Goals as goal

@@ -1,5 +1,5 @@
-use Rattle.std.proofs.Common.{length, vec_items, ap, subst, ◌∙◌}
-use Rattle.pairs.specs.Answers.{longest}
+use Rattle.std.proofs.Common.{ℕ, length, replicate, vec_items, ap, subst, ◌∙◌}
+use Rattle.std.proofs.lemmas.List.{length-replicate}
 use Rattle.review.specs.Asking.{review_calls}
 use Rattle.review.specs.Telling.{Told}
 use Rattle.review.specs.Picking.{Picks}
@@ -11,9 +11,10 @@ use Rattle.review.proofs.report.making.judge.Goals as goal
 pub tell-requires : goal.tell-requires
 tell-requires c =
     let asked = vec_items c.in_ok-asks.asks.pairs in
-    let script = c.in_ok-script.ensures _ _ ∙ ap (λ ps. review_calls ps c.most_moves.result) c.deref-2.ensures.value ∙ ap (review_calls asked) c.most_moves.ensures.value in
+    let lent = replicate {A = ℕ} c.most_moves.result 0 in
+    let script = c.in_ok-script.ensures _ _ ∙ ap (λ ps. review_calls ps lent) c.deref-2.ensures.value in
     record {
-      as_many = ap length c.deref-3.ensures.value ∙ as_many _ _ _ _ _ c.run-ran.result c.run-ran.ensures.right asked longest script;
+      as_many = ap length c.deref-3.ensures.value ∙ as_many _ _ _ _ _ c.run-ran.result c.run-ran.ensures.right asked lent script;
       within = places_within asked (vec_items c.in_ok-asks.asks.places) c.deref.result.now c.in_ok-asks.ensures;
     }
 
@@ -23,9 +24,11 @@ returns c =
     let asked = vec_items c.in_ok-asks.asks.pairs in
     let places = vec_items c.in_ok-asks.asks.places in
     let answers = vec_items c.run-ran.result.answers in
-    let script = c.in_ok-script.ensures _ _ ∙ ap (λ ps. review_calls ps c.most_moves.result) c.deref-2.ensures.value ∙ ap (review_calls asked) c.most_moves.ensures.value in
+    let lent = replicate {A = ℕ} c.most_moves.result 0 in
+    let script = c.in_ok-script.ensures _ _ ∙ ap (λ ps. review_calls ps lent) c.deref-2.ensures.value in
+    let long = length-replicate {A = ℕ} c.most_moves.result 0 ∙ c.most_moves.ensures.value in
     let picks = subst (Picks asked places) c.deref.ensures.value c.in_ok-asks.ensures in
     if_ok c.tell.result c.tell.ensures (λ text told.
     subst (λ m. ReviewSays (left_graph m) (right_graph m) m.pairs (vec_items text)) c.into_parts-left.ensures
-    (told_says _ _ _ _ _ c.run-ran.result c.run-ran.ensures.right asked script pairs places picks (vec_items text)
+    (told_says _ _ _ _ _ c.run-ran.result c.run-ran.ensures.right asked lent long script pairs places picks (vec_items text)
     (subst (λ zs. Told asked places zs (vec_items text)) c.deref-3.ensures.value told)))
