@@ -11,7 +11,10 @@ mod taking;
 mod words;
 
 pub use fault::{FileFault, Within};
-pub use laws::{files_read_back, sections_stand_behind_headers, worked_file_is_its_bytes};
+pub use laws::{
+    faults_stand_at_their_offsets, files_read_back, sections_stand_behind_headers,
+    worked_file_is_its_bytes,
+};
 pub use phase::Phase;
 pub use reader::Reader;
 pub use review::Review;
