@@ -10,10 +10,10 @@ use Rattle.readers.specs.declared.listing.fault.Wrong.{Wrong}
 use Rattle.readers.specs.declared.listing.fault.Wrong.TheVariants.{RunsOffTheEnd}
 use Rattle.readers.specs.declared.listing.fault.ListingFault.{ListingFault}
 use Rattle.readers.specs.Bytes.{first, width}
-use Rattle.readers.specs.Encoding.{written, encode}
+use Rattle.readers.specs.Encoding.{written, encode, highest}
 use Rattle.readers.specs.Faults.{fault}
 use Rattle.readers.specs.Flow.{most, inside, goes_on, command_lock_known, end_at, flow, all_lead_inside, all_locks_known, stops_at_the_end, is_well_formed}
-use Rattle.readers.specs.Reading.{highest, go_on, broken, taken, run, or_flow, refusal}
+use Rattle.readers.specs.Reading.{go_on, broken, taken, run, or_flow, refusal}
 use Rattle.readers.proofs.Spelling.{Spelt, spelt}
 use Rattle.readers.proofs.Steps.{width_drop}
 
@@ -96,7 +96,7 @@ bytes_written (suc s) n at (b ∷ bs) a h = bytes_written s n (suc at) bs a.1 h
 ends_well : (at : ℕ) (c : Command) → end_at at c ≡ Ok tt → not (goes_on c) ≡ true
 ends_well at c = go (goes_on c)
   where
-    go : (b : Bool) → ◌≡◌ {A = Result (Unit {0}) ListingFault} (cond b (Err (fault RunsOffTheEnd at)) (Ok tt)) (Ok tt) → not b ≡ true
+    go : (b : Bool) → ◌≡◌ {A = Result (Unit {0}) ListingFault} (cond b (Err (fault (RunsOffTheEnd c) at)) (Ok tt)) (Ok tt) → not b ≡ true
     go true h = not_refused _ h
     go false h = refl
 

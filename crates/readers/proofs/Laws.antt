@@ -1,4 +1,4 @@
--- The law of listings: they are their commands, written one after another.
+-- Bytes that are read are a well-formed run of commands, written one after another, and each such run is read.
 use Rattle.std.specs.Prelude.{◌≡◌, ℕ, ◌+◌, ◌*◌, ◌/◌, ◌%◌, ◌<◌, ◌≤◌, Bool, true, false, cond, not, List, [], ◌∷◌, ◌++◌, length, drop, Ok, Err, Result, refl}
 use Rattle.std.proofs.Common.{ap, subst, ◌∙◌, arith, length-append}
 use Rattle.std.specs.List.{AllByRecursion}
@@ -9,10 +9,10 @@ use Rattle.readers.specs.declared.listing.command.Command.TheVariants.{Stop, Pas
 use Rattle.readers.specs.declared.listing.fault.ListingFault.{ListingFault}
 use Rattle.readers.specs.declared.listing.fault.Wrong.TheVariants.{RunsOffTheEnd}
 use Rattle.readers.specs.Bytes.{first, width}
-use Rattle.readers.specs.Encoding.{written, encode, LockIsKnown, WellFormed, ListingsAreTheirCommands}
+use Rattle.readers.specs.Encoding.{written, encode, LockIsKnown, WellFormed, highest}
 use Rattle.readers.specs.Faults.{fault}
 use Rattle.readers.specs.Flow.{most, inside, goes_on, end_at, flow, all_lead_inside, stops_at_the_end}
-use Rattle.readers.specs.Reading.{highest, given, broken, run, or_flow, refusal, listing}
+use Rattle.readers.specs.Reading.{given, broken, run, or_flow, refusal, listing}
 use Rattle.readers.proofs.Steps.{width_some, run_more, broken_more}
 use Rattle.readers.proofs.Checks.{refusal_some}
 use Rattle.readers.proofs.Accepted.{not_broken, bytes_written, accepted_sound}
@@ -59,7 +59,7 @@ broken_encode (c ∷ cs) n at room h =
 ends_so : (at : ℕ) (c : Command) → not (goes_on c) ≡ true → end_at at c ≡ Ok tt
 ends_so at c = go (goes_on c)
   where
-    go : (b : Bool) → not b ≡ true → ◌≡◌ {A = Result (Unit {0}) ListingFault} (cond b (Err (fault RunsOffTheEnd at)) (Ok tt)) (Ok tt)
+    go : (b : Bool) → not b ≡ true → ◌≡◌ {A = Result (Unit {0}) ListingFault} (cond b (Err (fault (RunsOffTheEnd c) at)) (Ok tt)) (Ok tt)
     go true h = cc
     go false h = refl
 
@@ -111,6 +111,3 @@ read_encoded bs cs a h =
       bytes_written 0 0 0 bs a (not_broken bs p.0) ∙ ap encode p.1,
       subst WellFormed p.1 ((well_formed (run 0 bs)).0 (accepted_sound bs p.0)),
     )
-
-pub listings : ListingsAreTheirCommands
-listings = record { read_back = read_encoded; all_read = encoded_read }

@@ -4,8 +4,8 @@ pub mod Failing
 pub mod Items
 pub mod Laws
 pub mod Leading
-pub mod Meaning
 pub mod Reasons
+pub mod Saying
 pub mod Sizes
 pub mod Spelling
 pub mod Steps

@@ -7,9 +7,10 @@ use Rattle.readers.specs.declared.listing.command.Command.TheVariants.{Stop, Pas
 use Rattle.readers.specs.declared.listing.fault.Wrong.{Wrong}
 use Rattle.readers.specs.declared.listing.fault.Wrong.TheVariants.{TooManyCommands}
 use Rattle.readers.specs.Bytes.{first, width}
+use Rattle.readers.specs.Encoding.{highest}
 use Rattle.readers.specs.Faults.{fault}
 use Rattle.readers.specs.Flow.{most}
-use Rattle.readers.specs.Reading.{highest, go_on, broken, taken, run}
+use Rattle.readers.specs.Reading.{go_on, broken, taken, run}
 
 pub width_some : (c : Command) → width c ≡ suc (pred (width c))
 width_some Stop = refl

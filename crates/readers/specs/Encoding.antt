@@ -1,11 +1,10 @@
 -- Listings in the subject's words: how commands are written, and which runs of commands are well formed.
-use Rattle.std.specs.Prelude.{◌≡◌, ℕ, ◌/◌, ◌%◌, ◌<◌, ◌≤◌, List, [], ◌∷◌, ◌++◌, length, Ok}
+use Rattle.std.specs.Prelude.{◌≡◌, ℕ, ◌/◌, ◌%◌, ◌<◌, ◌≤◌, List, [], ◌∷◌, ◌++◌, length}
 use Rattle.std.specs.List.{flat_map, AllByRecursion}
 use Rattle.locks.specs.Limits.{lock_limit}
 use Rattle.readers.specs.declared.listing.command.Command.{Command}
 use Rattle.readers.specs.declared.listing.command.Command.TheVariants.{Stop, Pass, Take, Give, Goto, Either}
 use Rattle.readers.specs.Flow.{most}
-use Rattle.readers.specs.Reading.{listing}
 
 -- the higher byte comes first
 abbrev pub two_bytes : ℕ → List ℕ
@@ -19,6 +18,10 @@ written (Take k) = 2 ∷ k ∷ []
 written (Give k) = 3 ∷ k ∷ []
 written (Goto t) = 4 ∷ two_bytes t
 written (Either t u) = 5 ∷ two_bytes t ++ two_bytes u
+
+-- the highest byte that begins a command
+abbrev pub highest : ℕ
+highest = 5
 
 -- the commands, one after another
 abbrev pub encode : List Command → List ℕ
@@ -56,8 +59,3 @@ pub record WellFormed (cs : List Command) : Type 0 where
   pub locks_known : AllByRecursion LockIsKnown cs
   pub leads_inside : AllByRecursion (LeadsInside (length cs)) cs
   pub ends : (front : List Command) × (last : Command) × (cs ≡ front ++ last ∷ []) × MayEnd last
-
--- bytes are read exactly where they are a well-formed run of commands, and then as that run
-pub record ListingsAreTheirCommands : Type 0 where
-  pub read_back : (bs : List ℕ) (cs : List Command) → AllByRecursion (λ b. b < 256) bs → listing bs ≡ Ok cs → (bs ≡ encode cs) × WellFormed cs
-  pub all_read : (cs : List Command) → WellFormed cs → listing (encode cs) ≡ Ok cs

@@ -5,8 +5,8 @@ use Rattle.readers.specs.declared.listing.commands.Commands.{Commands}
 use Rattle.readers.specs.declared.listing.fault.ListingFault.{ListingFault}
 use Rattle.readers.specs.declared.listing.fault.Wrong.{Wrong}
 use Rattle.readers.specs.Bytes.{first, width}
+use Rattle.readers.specs.Encoding.{highest}
 use Rattle.readers.specs.Faults.{fault}
-use Rattle.readers.specs.Reading.{highest}
 
 -- an offset, with the command there or its fault
 abbrev pub Item : Type 0

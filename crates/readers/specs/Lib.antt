@@ -11,6 +11,7 @@ pub mod Reading
 pub mod Records
 pub mod Refusals
 pub mod Rows
+pub mod Saying
 pub mod TableFaults
 pub mod TableRefusals
 pub mod Tables

@@ -1,16 +1,13 @@
--- What a whole listing says.
+-- How a whole listing is read.
 use Rattle.std.specs.Prelude.{ℕ, zero, suc, pred, cond, List, [], ◌∷◌, length, Ok, Err, Result, nat_le}
 use Rattle.readers.specs.declared.listing.command.Command.{Command}
 use Rattle.readers.specs.declared.listing.fault.Wrong.{Wrong}
 use Rattle.readers.specs.declared.listing.fault.Wrong.TheVariants.{NoBytes, TooManyCommands}
 use Rattle.readers.specs.declared.listing.fault.ListingFault.{ListingFault}
 use Rattle.readers.specs.Bytes.{first, width}
+use Rattle.readers.specs.Encoding.{highest}
 use Rattle.readers.specs.Faults.{fault}
 use Rattle.readers.specs.Flow.{most, flow}
-
--- the highest byte that begins a command
-abbrev pub highest : ℕ
-highest = 5
 
 abbrev pub given : {X : Type 0} → Result (Unit {0}) ListingFault → X → Result X ListingFault
 given (Ok u) x = Ok x
@@ -48,6 +45,6 @@ abbrev pub refusal : List ℕ → Result (Unit {0}) ListingFault
 refusal [] = Err (fault NoBytes 0)
 refusal (b ∷ bs) = or_flow (broken 0 0 0 (b ∷ bs)) (run 0 (b ∷ bs))
 
--- what the bytes say: a run of commands, or a refusal
+-- the commands of the bytes, or why they are refused
 abbrev pub listing : List ℕ → Result (List Command) ListingFault
 listing bs = given (refusal bs) (run 0 bs)

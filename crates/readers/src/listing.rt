@@ -11,7 +11,5 @@ mod tests;
 
 pub use command::Command;
 pub use fault::{ListingFault, Wrong};
-pub use laws::{
-    listings_are_their_commands, listings_mean_their_commands, refusals_have_their_reasons,
-};
+pub use laws::{bytes_say_one_listing, listings_mean_their_commands};
 pub use place::Listing;

@@ -9,10 +9,6 @@ use Rattle.pairs.specs.Answers.{ask_refusal, longest}
 use Rattle.pairs.specs.declared.answers.AskFault.TheVariants.{NoSummary, NoLocation, TooShort}
 use Rattle.pairs.specs.declared.answers.Verdict.{Verdict}
 use Rattle.pairs.specs.declared.answers.Verdict.TheVariants.{Never, Reached}
-use Rattle.readers.specs.declared.listing.command.Command as listed
-use Rattle.readers.specs.declared.listing.fault.ListingFault.{ListingFault}
-use Rattle.readers.specs.Place.{answer_of, commands_after, Reads}
-use Rattle.readers.specs.Reading.{listing}
 use Rattle.runs.specs.declared.calls.Answer.{Answer}
 use Rattle.runs.specs.declared.calls.Answer.TheVariants as back
 use Rattle.runs.specs.declared.calls.Call.{Call}
@@ -97,19 +93,3 @@ ran_says f g a b cs ran right p before lent room script q run t =
     let z = asked_of f g a b cs ran right (p ∷ []) lent script 0 p x.0 refl x.1 in
     by_summaries f g a b cs ran right (p ∷ []) lent script (RefusalAnswered before q run) (AskTold (slice_get (vec_items ran.answers) 2) before q run) (PairSays (f a) (g b) p before q run)
     (λ one two told. by_ask (f a) (g b) p before lent room f g x.0 z.0 z.1 q run one two z.2 z.3 (subst (λ o. AskTold o before q run) x.1 told)) t
-
--- a listing that was read is in its place
-read_so : (r : Result (List listed.Command) ListingFault) (before after : List listed.Command) → Ok tt ≡ answer_of r → after ≡ commands_after r before → r ≡ Ok after
-read_so (Ok cs) before after e is = ap (λ x. Ok x) (sym is)
-read_so (Err f) before after e is = cc
-
-pub was_read : (bs : List ℕ) (before after : List listed.Command) → Reads bs before (Ok tt) after → listing bs ≡ Ok after
-was_read bs before after r = read_so (listing bs) before after r.answer r.place
-
--- and one that is refused is not
-refused_so : (r : Result (List listed.Command) ListingFault) (f : ListingFault) → Err f ≡ answer_of r → r ≡ Err f
-refused_so (Ok cs) f e = cc
-refused_so (Err g) f e = let same : f ≡ g = cc in ap (λ x. Err x) (sym same)
-
-pub was_refused : (bs : List ℕ) (before after : List listed.Command) (f : ListingFault) → Reads bs before (Err f) after → listing bs ≡ Err f
-was_refused bs before after f r = refused_so (listing bs) f r.answer

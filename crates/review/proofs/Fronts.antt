@@ -8,8 +8,7 @@ use Rattle.layers.specs.Naming.{NumbersAnswer, NamesSet}
 use Rattle.layers.specs.Numbers.{in_order}
 use Rattle.readers.specs.declared.listing.command.Command as listed
 use Rattle.readers.specs.declared.listing.fault.ListingFault.{ListingFault}
-use Rattle.readers.specs.Place.{answer_of, commands_after}
-use Rattle.readers.specs.Reading.{listing}
+use Rattle.readers.specs.Saying.{ListingSays, ListingRead}
 use Rattle.search.specs.declared.threads.Pair.{Pair}
 use Rattle.review.specs.declared.file.fault.FileFault.{FileFault}
 use Rattle.review.specs.declared.file.phase.Phase.{Phase}
@@ -61,13 +60,13 @@ pub record Body (cs : List Command) (m : Meaning) (renamings : List (List ℕ)) 
   pub left_bytes : List ℕ
   pub right_bytes : List ℕ
   pub commands : cs ≡ left left_bytes ∷ right right_bytes ∷ (map rename renamings ++ (map pair_of m.pairs ++ tail))
-  pub lefts : listing left_bytes ≡ Ok m.lefts
-  pub rights : listing right_bytes ≡ Ok m.rights
+  pub lefts : ListingSays left_bytes (Ok m.lefts)
+  pub rights : ListingSays right_bytes (Ok m.rights)
   pub numbers : NumbersFrom renamings m.numbers
 
 abbrev pub Shape : Phase → List Command → Meaning → Type 0
 Shape BeforeLeft cs m = (cs ≡ []) × (m.numbers ≡ in_order) × (m.pairs ≡ [])
-Shape BeforeRight cs m = (l : List ℕ) × (cs ≡ left l ∷ []) × (listing l ≡ Ok m.lefts) × (m.numbers ≡ in_order) × (m.pairs ≡ [])
+Shape BeforeRight cs m = (l : List ℕ) × (cs ≡ left l ∷ []) × ListingSays l (Ok m.lefts) × (m.numbers ≡ in_order) × (m.pairs ≡ [])
 Shape AfterRight cs m = Body cs m [] [] × (m.pairs ≡ [])
 Shape AmongPairs cs m = (renamings : List (List ℕ)) × Body cs m renamings []
 Shape AfterEnd cs m = (renamings : List (List ℕ)) × Body cs m renamings (end ∷ [])
@@ -118,14 +117,15 @@ with_names cs m ns numbers b none is say =
       numbers = (is, say);
     }
 
--- a listing that is read, by the answer that a fault would be carried in
-read_ok : (r : Result (List listed.Command) ListingFault) (before : List listed.Command) (as_file : ListingFault → FileFault) → Ok tt ≡ carried as_file (answer_of r) → r ≡ Ok (commands_after r before)
-read_ok (Ok cs) before as_file e = refl
-read_ok (Err f) before as_file e = cc
+-- no fault is carried where there is none
+carried_ok : {F : Type 0} (s : Result (Unit {0}) F) (as_file : F → FileFault) → Ok tt ≡ carried as_file s → s ≡ Ok tt
+carried_ok (Ok u) as_file e = refl
+carried_ok (Err f) as_file e = cc
 
-names_ok : (s : Result (Unit {0}) NamesFault) (as_file : NamesFault → FileFault) → Ok tt ≡ carried as_file s → s ≡ Ok tt
-names_ok (Ok u) as_file e = refl
-names_ok (Err f) as_file e = cc
+-- a listing that was accepted is there
+listed_so : (bs : List ℕ) (before after : List listed.Command) (s : Result (Unit {0}) ListingFault) → ListingRead bs before s after → s ≡ Ok tt → ListingSays bs (Ok after)
+listed_so bs before after (Ok u) read e = read.says
+listed_so bs before after (Err f) read e = cc
 
 -- names that were accepted are those that were given
 named : (ns before after : List ℕ) (s : Result (Unit {0}) NamesFault) → NamesSet ns before s after → s ≡ Ok tt → (after ≡ ns) × NumbersAnswer ns (Ok tt)
@@ -133,13 +133,13 @@ named ns before after (Ok u) set e = (set.holds, set.says)
 named ns before after (Err f) set e = cc
 
 pub sound_section : (x : Section) (m n : Meaning) → Entered x m (Ok tt) n → Sound (command_of x)
-sound_section (code.Left bytes place) m n e = (_, read_ok (listing bytes.now) m.lefts _ e.0)
-sound_section (code.Right bytes place) m n e = (_, read_ok (listing bytes.now) m.rights _ e.0)
-sound_section (code.Rename numbers place) m n e = (named numbers.now m.numbers n.numbers e.0 e.2 (names_ok e.0 _ e.1)).1
+sound_section (code.Left bytes place) m n e = (n.lefts, listed_so bytes.now m.lefts n.lefts e.0 e.2 (carried_ok e.0 _ e.1))
+sound_section (code.Right bytes place) m n e = (n.rights, listed_so bytes.now m.rights n.rights e.0 e.2 (carried_ok e.0 _ e.1))
+sound_section (code.Rename numbers place) m n e = (named numbers.now m.numbers n.numbers e.0 e.2 (carried_ok e.0 _ e.1)).1
 sound_section (code.Pair a b) m n e = tt
 sound_section code.End m n e = tt
 
-with_left : (p : Phase) (cs : List Command) (m : Meaning) (l : List ℕ) (lefts : List listed.Command) → Allowed p (kind_of (left l)) → listing l ≡ Ok lefts → Shape p cs m → Shape BeforeRight (cs ++ left l ∷ []) (record m { lefts = lefts })
+with_left : (p : Phase) (cs : List Command) (m : Meaning) (l : List ℕ) (lefts : List listed.Command) → Allowed p (kind_of (left l)) → ListingSays l (Ok lefts) → Shape p cs m → Shape BeforeRight (cs ++ left l ∷ []) (record m { lefts = lefts })
 with_left BeforeLeft cs m l lefts a read s = (l, ap (λ xs. xs ++ left l ∷ []) s.0, read, s.1, s.2)
 with_left BeforeRight cs m l lefts a read s = cc
 with_left AfterRight cs m l lefts (inl a) read s = cc
@@ -149,7 +149,7 @@ with_left AmongPairs cs m l lefts (inl a) read s = cc
 with_left AmongPairs cs m l lefts (inr a) read s = cc
 with_left AfterEnd cs m l lefts a read s = absurd a
 
-with_right : (p : Phase) (cs : List Command) (m : Meaning) (r : List ℕ) (rights : List listed.Command) → Allowed p (kind_of (right r)) → listing r ≡ Ok rights → Shape p cs m → Shape AfterRight (cs ++ right r ∷ []) (record m { rights = rights })
+with_right : (p : Phase) (cs : List Command) (m : Meaning) (r : List ℕ) (rights : List listed.Command) → Allowed p (kind_of (right r)) → ListingSays r (Ok rights) → Shape p cs m → Shape AfterRight (cs ++ right r ∷ []) (record m { rights = rights })
 with_right BeforeLeft cs m r rights a read s = cc
 with_right BeforeRight cs m r rights a read s = (
   record {
@@ -192,10 +192,12 @@ closed AmongPairs cs m a s = (s.0, ended cs m s.0 s.1)
 closed AfterEnd cs m a s = absurd a
 
 pub shape_more : (p : Phase) (cs : List Command) (x : Section) (m n : Meaning) → Allowed p (kind_of (command_of x)) → Entered x m (Ok tt) n → Shape p cs m → Shape (phase_after (kind_of (command_of x))) (cs ++ command_of x ∷ []) n
-shape_more p cs (code.Left bytes place) m n a e s = rw e.1 (with_left p cs m bytes.now _ a (read_ok (listing bytes.now) m.lefts _ e.0) s)
-shape_more p cs (code.Right bytes place) m n a e s = rw e.1 (with_right p cs m bytes.now _ a (read_ok (listing bytes.now) m.rights _ e.0) s)
+shape_more p cs (code.Left bytes place) m n a e s =
+    rw e.3 (with_left p cs m bytes.now n.lefts a (listed_so bytes.now m.lefts n.lefts e.0 e.2 (carried_ok e.0 _ e.1)) s)
+shape_more p cs (code.Right bytes place) m n a e s =
+    rw e.3 (with_right p cs m bytes.now n.rights a (listed_so bytes.now m.rights n.rights e.0 e.2 (carried_ok e.0 _ e.1)) s)
 shape_more p cs (code.Rename numbers place) m n a e s =
-    let given = named numbers.now m.numbers n.numbers e.0 e.2 (names_ok e.0 _ e.1) in
+    let given = named numbers.now m.numbers n.numbers e.0 e.2 (carried_ok e.0 _ e.1) in
     rw e.3 (renamed p cs m numbers.now n.numbers a given.0 given.1 s)
 shape_more p cs (code.Pair a b) m n h e s = rw e.1 (paired p cs m (record { left = a; right = b }) h s)
 shape_more p cs code.End m n a e s = rw e.1 (closed p cs m a s)

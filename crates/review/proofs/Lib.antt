@@ -5,6 +5,7 @@ pub mod Filling
 pub mod Fronts
 pub mod Judging
 pub mod Moves
+pub mod Offsets
 pub mod OneAnswer
 pub mod Picking
 pub mod Reading

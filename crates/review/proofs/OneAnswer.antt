@@ -7,7 +7,8 @@ use Rattle.layers.specs.Naming.{NumbersAnswer}
 use Rattle.layers.proofs.Setting as setting
 use Rattle.readers.specs.declared.listing.command.Command as listed
 use Rattle.readers.specs.declared.listing.fault.ListingFault.{ListingFault}
-use Rattle.readers.specs.Reading.{listing}
+use Rattle.readers.specs.Saying.{ListingSays}
+use Rattle.readers.proofs.Saying.{one_listing}
 use Rattle.search.specs.declared.threads.Pair.{Pair}
 use Rattle.review.specs.declared.file.fault.FileFault.{FileFault}
 use Rattle.review.specs.declared.file.fault.FileFault.TheVariants.{TooLong, EndsEarly, NotAllowed, InLeft, InRight, InNames}
@@ -17,15 +18,15 @@ use Rattle.review.specs.declared.file.phase.Phase.TheVariants.{BeforeLeft, Among
 use Rattle.review.specs.Commands.{Command, left, right, rename, pair, end, kind_of, first_byte, written, encode, Sized, header}
 use Rattle.review.specs.Limits.{most_bytes}
 use Rattle.review.specs.Order.{Allowed, InOrder, phase_after, phase_behind}
-use Rattle.review.specs.Reviews.{Meaning, Front, FaultIn, Written, Sound, FileSays, NumbersFrom, FilesReadBack, file_commands}
+use Rattle.review.specs.Reviews.{Meaning, Front, FaultIn, Written, Sound, FileSays, FileRead, NumbersFrom, FilesReadBack, file_commands}
 use Rattle.review.specs.Taking.{Forbidden, EndsThere, Stands}
 use Rattle.review.proofs.Commands.{Compared, same, longer, shorter, compare, prefix_free}
 use Rattle.review.proofs.Fronts.{Body, pair_of}
 
 -- the fault of a command's section, as the answer that it makes
 abbrev FaultOf : Command → ℕ → Result Meaning FileFault → Type 0
-FaultOf (left l) place q = (f : ListingFault) × (listing l ≡ Err f) × (q ≡ Err (InLeft f place))
-FaultOf (right l) place q = (f : ListingFault) × (listing l ≡ Err f) × (q ≡ Err (InRight f place))
+FaultOf (left l) place q = (f : ListingFault) × ListingSays l (Err f) × (q ≡ Err (InLeft f place))
+FaultOf (right l) place q = (f : ListingFault) × ListingSays l (Err f) × (q ≡ Err (InRight f place))
 FaultOf (rename ns) place q = (f : NamesFault) × NumbersAnswer ns (Err f) × (q ≡ Err (InNames f place))
 FaultOf (pair a b) place q = ⊥
 FaultOf end place q = ⊥
@@ -119,8 +120,8 @@ nothing_stands : {X : Type 0} (c : Command) (rest more : List ℕ) → rest ≡ 
 nothing_stands c rest more e f = let no = sym e ∙ f in cc
 
 sound_or_not : {X : Type 0} (c : Command) (place : ℕ) (q : Result Meaning FileFault) → Sound c → FaultOf c place q → X
-sound_or_not (left l) place q s f = let no = sym s.1 ∙ f.1 in cc
-sound_or_not (right l) place q s f = let no = sym s.1 ∙ f.1 in cc
+sound_or_not (left l) place q s f = let no = one_listing l (Ok s.0) (Err f.0) s.1 f.1 in cc
+sound_or_not (right l) place q s f = let no = one_listing l (Ok s.0) (Err f.0) s.1 f.1 in cc
 sound_or_not (rename ns) place q s f = let no = setting.one_answer ns (Ok tt) (Err f.0) s f.1 in cc
 sound_or_not (pair a b) place q s f = absurd f
 sound_or_not end place q s f = absurd f
@@ -158,15 +159,17 @@ passed bs cs ds us vs q c more finish front is there =
 
 -- and with one answer
 
-same_ok : {E X : Type 0} (x y : X) (r : Result X E) → r ≡ Ok x → r ≡ Ok y → x ≡ y
-same_ok x y r e f = let both = sym e ∙ f in cc
+same_commands : (bs xs : List ℕ) (cs ds : List listed.Command) → bs ≡ xs → ListingSays bs (Ok cs) → ListingSays xs (Ok ds) → cs ≡ ds
+same_commands bs xs cs ds is h k =
+    let one = one_listing xs (Ok cs) (Ok ds) (subst (λ l. ListingSays l (Ok cs)) is h) k in
+    cc
 
-same_err : {E X : Type 0} (x y : E) (r : Result X E) → r ≡ Err x → r ≡ Err y → x ≡ y
-same_err x y r e f = let both = sym e ∙ f in cc
+same_fault : (l : List ℕ) (f g : ListingFault) → ListingSays l (Err f) → ListingSays l (Err g) → f ≡ g
+same_fault l f g h k = let one = one_listing l (Err f) (Err g) h k in cc
 
 one_fault : (c : Command) (place : ℕ) (q r : Result Meaning FileFault) → FaultOf c place q → FaultOf c place r → q ≡ r
-one_fault (left l) place q r f g = f.2 ∙ ap (λ x. Err (InLeft x place)) (same_err f.0 g.0 (listing l) f.1 g.1) ∙ sym g.2
-one_fault (right l) place q r f g = f.2 ∙ ap (λ x. Err (InRight x place)) (same_err f.0 g.0 (listing l) f.1 g.1) ∙ sym g.2
+one_fault (left l) place q r f g = f.2 ∙ ap (λ x. Err (InLeft x place)) (same_fault l f.0 g.0 f.1 g.1) ∙ sym g.2
+one_fault (right l) place q r f g = f.2 ∙ ap (λ x. Err (InRight x place)) (same_fault l f.0 g.0 f.1 g.1) ∙ sym g.2
 one_fault (rename ns) place q r f g =
     let one = setting.one_answer ns (Err f.0) (Err g.0) f.1 g.1 in
     f.2 ∙ ap (λ x. Err (InNames x place)) (let is : f.0 ≡ g.0 = cc in is) ∙ sym g.2
@@ -213,7 +216,7 @@ same_meaning cs m n rs ss a b =
     let r : a.right_bytes ≡ b.right_bytes = cc in
     let tail : map rename rs ++ (map pair_of m.pairs ++ end ∷ []) ≡ map rename ss ++ (map pair_of n.pairs ++ end ∷ []) = cc in
     let rest = same_behind rs ss m.pairs n.pairs m.numbers n.numbers a.numbers b.numbers tail in
-    made_of (same_ok m.lefts n.lefts (listing b.left_bytes) (ap listing (sym l) ∙ a.lefts) b.lefts) (same_ok m.rights n.rights (listing b.right_bytes) (ap listing (sym r) ∙ a.rights) b.rights) rest.0 rest.1
+    made_of (same_commands a.left_bytes b.left_bytes m.lefts n.lefts l a.lefts b.lefts) (same_commands a.right_bytes b.right_bytes m.rights n.rights r a.rights b.rights) rest.0 rest.1
 
 early_allowed : {X : Type 0} (p : Phase) (rest : List ℕ) → EndsThere p rest → Forbidden p rest → X
 early_allowed p rest (inl e) f = let no = sym e.0 ∙ f.2 in cc
@@ -266,6 +269,14 @@ one_answer bs q r a b =
     (λ over. long bs q over a ∙ sym (long bs r over b))
     (λ within. one_end bs q r (ended bs q within a) (ended bs r within b))
     (cases_lt most_bytes (length bs))
+
+-- so a review holds what the only answer says, or what it held before
+
+pub read_whole : (bs : List ℕ) (before after : Meaning) → FileSays bs (Ok after) → FileRead bs before (Ok tt) after
+read_whole bs before after says = record { says = says; only = λ q h. one_answer bs q (Ok after) h says; stays = tt }
+
+pub read_refused : (bs : List ℕ) (before : Meaning) (f : FileFault) → FileSays bs (Err f) → FileRead bs before (Err f) before
+read_refused bs before f says = record { says = says; only = λ q h. one_answer bs q (Err f) h says; stays = refl }
 
 pub files_read_back : FilesReadBack
 files_read_back l r renamings pairs lefts rights ns q within sized left_is right_is numbers says =

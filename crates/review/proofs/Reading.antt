@@ -2,13 +2,9 @@
 use Rattle.std.proofs.Common.{◌≡◌, ℕ, ◌+◌, ◌*◌, ◌≤◌, List, [], ◌∷◌, ◌++◌, length, Ok, Err, Result, sym, refl, ap, subst, ◌∙◌, arith, length-append, append-nil}
 use Rattle.std.specs.List.{AllByRecursion}
 use Rattle.std.proofs.lemmas.List.{nil_from_length}
-use Rattle.layers.specs.declared.names.fault.NamesFault.{NamesFault}
 use Rattle.layers.specs.Naming.{NumbersAnswer}
 use Rattle.layers.specs.Numbers.{in_order}
-use Rattle.readers.specs.declared.listing.command.Command as listed
-use Rattle.readers.specs.declared.listing.fault.ListingFault.{ListingFault}
-use Rattle.readers.specs.Place.{answer_of}
-use Rattle.readers.specs.Reading.{listing}
+use Rattle.readers.specs.Saying.{ListingSays, read_as}
 use Rattle.review.specs.declared.file.fault.FileFault.{FileFault}
 use Rattle.review.specs.declared.file.fault.FileFault.TheVariants.{TooLong, EndsEarly, NotAllowed, InLeft, InRight, InNames}
 use Rattle.review.specs.declared.file.phase.Phase.TheVariants.{BeforeLeft, AfterEnd}
@@ -50,12 +46,12 @@ begins bs s m short is numbers pairs =
 -- each pair takes five bytes
 room_more : (x : Section) (m n : Meaning) (k : ℕ) (rest more : List ℕ) → Entered x m (Ok tt) n → rest ≡ written (command_of x) ++ more → 5 * length m.pairs + length rest ≤ k → 5 * length n.pairs + length more ≤ k
 room_more (code.Left bytes place) m n k rest more e is h =
-    let same = ap (λ i. length i.pairs) e.1 in
+    let same = ap (λ i. length i.pairs) e.3 in
     let long = ap length is in
     let sum = length-append (written (left bytes.now)) more in
     omega arith
 room_more (code.Right bytes place) m n k rest more e is h =
-    let same = ap (λ i. length i.pairs) e.1 in
+    let same = ap (λ i. length i.pairs) e.3 in
     let long = ap length is in
     let sum = length-append (written (right bytes.now)) more in
     omega arith
@@ -145,23 +141,19 @@ fault_in bs s t m x place i took there = record {
 
 -- a fault that is carried is that of the section
 
-listing_fault : (r : Result (List listed.Command) ListingFault) (as_file : ListingFault → FileFault) (f : FileFault) → Err f ≡ carried as_file (answer_of r) → (g : ListingFault) × (r ≡ Err g) × (f ≡ as_file g)
-listing_fault (Ok cs) as_file f e = cc
-listing_fault (Err g) as_file f e = (g, refl, let is : f ≡ as_file g = cc in is)
-
-names_fault : (s : Result (Unit {0}) NamesFault) (as_file : NamesFault → FileFault) (f : FileFault) → Err f ≡ carried as_file s → (g : NamesFault) × (s ≡ Err g) × (f ≡ as_file g)
-names_fault (Ok u) as_file f e = cc
-names_fault (Err g) as_file f e = (g, refl, let is : f ≡ as_file g = cc in is)
+carried_fault : {F : Type 0} (s : Result (Unit {0}) F) (as_file : F → FileFault) (f : FileFault) → Err f ≡ carried as_file s → (g : F) × (s ≡ Err g) × (f ≡ as_file g)
+carried_fault (Ok u) as_file f e = cc
+carried_fault (Err g) as_file f e = (g, refl, let is : f ≡ as_file g = cc in is)
 
 pub faulty : (bs : List ℕ) (s t : Standing) (m n : Meaning) (x : Section) (f : FileFault) → SoFar bs s m → TookOff s x t → Entered x m (Err f) n → FileSays bs (Err f)
 faulty bs s t m n (code.Left bytes place) f i took e =
-    let g = listing_fault (listing bytes.now) (λ g. InLeft g place) f e.0 in
-    rw g.2 (i.short, (bytes.now, fault_in bs s t m (code.Left bytes place) place i took (took.place (length (encode i.commands)) (offset bs s m i)), g.1))
+    let g = carried_fault e.0 (λ g. InLeft g place) f e.1 in
+    rw g.2 (i.short, (bytes.now, fault_in bs s t m (code.Left bytes place) place i took (took.place (length (encode i.commands)) (offset bs s m i)), subst (λ r. ListingSays bytes.now (read_as r n.lefts)) g.1 e.2.says))
 faulty bs s t m n (code.Right bytes place) f i took e =
-    let g = listing_fault (listing bytes.now) (λ g. InRight g place) f e.0 in
-    rw g.2 (i.short, (bytes.now, fault_in bs s t m (code.Right bytes place) place i took (took.place (length (encode i.commands)) (offset bs s m i)), g.1))
+    let g = carried_fault e.0 (λ g. InRight g place) f e.1 in
+    rw g.2 (i.short, (bytes.now, fault_in bs s t m (code.Right bytes place) place i took (took.place (length (encode i.commands)) (offset bs s m i)), subst (λ r. ListingSays bytes.now (read_as r n.rights)) g.1 e.2.says))
 faulty bs s t m n (code.Rename numbers place) f i took e =
-    let g = names_fault e.0 (λ g. InNames g place) f e.1 in
+    let g = carried_fault e.0 (λ g. InNames g place) f e.1 in
     rw g.2 (i.short, (numbers.now, fault_in bs s t m (code.Rename numbers place) place i took (took.place (length (encode i.commands)) (offset bs s m i)), subst (NumbersAnswer numbers.now) g.1 e.2.says))
 faulty bs s t m n (code.Pair a b) f i took e = let no = e.0 in cc
 faulty bs s t m n code.End f i took e = let no = e.0 in cc

@@ -1,10 +1,11 @@
 -- Worked files, worked out.
-use Rattle.std.proofs.Common.{◌≡◌, ℕ, ◌+◌, ◌*◌, ◌/◌, ◌%◌, ◌<◌, List, [], ◌∷◌, ◌++◌, length, drop, get_or, Ok, Err, refl, sym, ap, subst, ◌∙◌, inl, inr, arith}
+use Rattle.std.proofs.Common.{◌≡◌, ℕ, ◌/◌, ◌%◌, ◌<◌, List, [], ◌∷◌, ◌++◌, length, drop, get_or, Ok, refl, sym, ap, ◌∙◌, inl, inr, arith}
 use Rattle.std.proofs.lemmas.List.{length-append}
 use Rattle.readers.specs.declared.listing.command.Command.TheVariants.{Stop}
+use Rattle.readers.specs.Saying.{ListingSays}
 use Rattle.review.specs.declared.file.kind.CommandKind.{CommandKind}
 use Rattle.review.specs.declared.file.kind.CommandKind.TheVariants as kind
-use Rattle.review.specs.declared.file.phase.Phase.TheVariants.{BeforeLeft, BeforeRight, AfterRight, AmongPairs, AfterEnd}
+use Rattle.review.specs.declared.file.phase.Phase.TheVariants.{AmongPairs}
 use Rattle.review.specs.Commands.{Command, left, right, rename, pair, end, first_byte, written, Sized}
 use Rattle.review.specs.Order.{Allowed}
 use Rattle.review.specs.Reviews.{Front}
@@ -20,6 +21,9 @@ other_kind b k j e differs is = differs (ap first_byte (sym is) ∙ e)
 no_rename : (k : CommandKind) → first_byte k ≡ 0x13 → Allowed AmongPairs k → ⊥
 no_rename k e (inl is) = other_kind 0x13 k kind.Pair e (λ x. absurd (omega arith)) is
 no_rename k e (inr is) = other_kind 0x13 k kind.End e (λ x. absurd (omega arith)) is
+
+one_stop : ListingSays (0x00 ∷ []) (Ok (Stop ∷ []))
+one_stop = (refl, record { few = omega arith; locks_known = (tt, tt); leads_inside = (tt, tt); ends = ([], Stop, refl, tt) })
 
 abbrev first : List ℕ → ℕ
 first xs = get_or xs 0 0
@@ -41,9 +45,9 @@ worked_files_are_refused = record {
   no_bytes = (omega arith, ([], [], nothing_before [], inl (refl, λ e. cc)), refl);
   right_first = (omega arith, ([], 0x11 ∷ [], nothing_before _, (0x11, [], refl, λ k e. other_kind 0x11 k kind.Left e (λ x. absurd (omega arith))), refl));
   section_cut_short = (omega arith, ([], 0x10 ∷ 0 ∷ 7 ∷ 0x02 ∷ [], nothing_before _, inr (kind.Left, 0 ∷ 7 ∷ 0x02 ∷ [], refl, refl, cut)), refl);
-  section_of_no_bytes = (omega arith, ([], record { front = []; rest = 0x10 ∷ 0 ∷ 0 ∷ []; more = []; before = nothing_before _; stands = (refl, (let h : 0 < 65536 = omega arith in h), refl); there = refl }, refl));
-  rename_behind_a_pair = (omega arith, (left (0x00 ∷ []) ∷ right (0x00 ∷ []) ∷ pair 0 0 ∷ [], 0x13 ∷ [], record { split = refl; in_order = (refl, (refl, (inr (inl refl), tt))); sized = ((let h : 1 < 65536 = omega arith in h), ((let h : 1 < 65536 = omega arith in h), (((let h : 0 < 65536 = omega arith in h), (let h : 0 < 65536 = omega arith in h)), tt))); sound = ((Stop ∷ [], refl), ((Stop ∷ [], refl), (tt, tt))) }, (0x13, [], refl, no_rename), refl));
-  byte_behind_end = (omega arith, (left (0x00 ∷ []) ∷ right (0x00 ∷ []) ∷ end ∷ [], 0 ∷ [], record { split = refl; in_order = (refl, (refl, (inr (inr refl), tt))); sized = ((let h : 1 < 65536 = omega arith in h), ((let h : 1 < 65536 = omega arith in h), (tt, tt))); sound = ((Stop ∷ [], refl), ((Stop ∷ [], refl), (tt, tt))) }, (0, [], refl, λ k e a. a), refl));
+  section_of_no_bytes = (omega arith, ([], record { front = []; rest = 0x10 ∷ 0 ∷ 0 ∷ []; more = []; before = nothing_before _; stands = (refl, (let h : 0 < 65536 = omega arith in h), refl); there = refl }, (refl, refl)));
+  rename_behind_a_pair = (omega arith, (left (0x00 ∷ []) ∷ right (0x00 ∷ []) ∷ pair 0 0 ∷ [], 0x13 ∷ [], record { split = refl; in_order = (refl, (refl, (inr (inl refl), tt))); sized = ((let h : 1 < 65536 = omega arith in h), ((let h : 1 < 65536 = omega arith in h), (((let h : 0 < 65536 = omega arith in h), (let h : 0 < 65536 = omega arith in h)), tt))); sound = ((Stop ∷ [], one_stop), ((Stop ∷ [], one_stop), (tt, tt))) }, (0x13, [], refl, no_rename), refl));
+  byte_behind_end = (omega arith, (left (0x00 ∷ []) ∷ right (0x00 ∷ []) ∷ end ∷ [], 0 ∷ [], record { split = refl; in_order = (refl, (refl, (inr (inr refl), tt))); sized = ((let h : 1 < 65536 = omega arith in h), ((let h : 1 < 65536 = omega arith in h), (tt, tt))); sound = ((Stop ∷ [], one_stop), ((Stop ∷ [], one_stop), (tt, tt))) }, (0, [], refl, λ k e a. a), refl));
   just_short_enough = λ bs long. (omega arith, ([], 0x00 ∷ bs, nothing_before _, (0, bs, refl, λ k e. other_kind 0 k kind.Left e (λ x. absurd (omega arith))), refl));
   too_long = λ bs long. omega arith;
   not_allowed = refl;

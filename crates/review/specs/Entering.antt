@@ -3,8 +3,8 @@ use Rattle.std.specs.Prelude.{◌≡◌, [], ◌∷◌, ◌++◌, Ok, Err, Resul
 use Rattle.layers.specs.declared.names.fault.NamesFault.{NamesFault}
 use Rattle.layers.specs.Naming.{NamesSet}
 use Rattle.layers.specs.Numbers.{in_order}
-use Rattle.readers.specs.Place.{answer_of, commands_after}
-use Rattle.readers.specs.Reading.{listing}
+use Rattle.readers.specs.declared.listing.fault.ListingFault.{ListingFault}
+use Rattle.readers.specs.Saying.{ListingRead}
 use Rattle.review.specs.declared.file.fault.FileFault.{FileFault}
 use Rattle.review.specs.declared.file.fault.FileFault.TheVariants.{InLeft, InRight, InNames}
 use Rattle.review.specs.declared.file.section.Section.{Section}
@@ -15,11 +15,6 @@ use Rattle.review.specs.Reviews.{Meaning}
 abbrev pub Emptied : Meaning → Type 0
 Emptied m = (m.numbers ≡ in_order) × (m.pairs ≡ [])
 
--- what was filled in, or the fault that came in its way
-abbrev pub filled : Result (Unit {0}) FileFault → Meaning → Result Meaning FileFault
-filled (Ok u) m = Ok m
-filled (Err f) m = Err f
-
 -- a fault is carried whole
 abbrev pub carried : {F : Type 0} → (F → FileFault) → Result (Unit {0}) F → Result (Unit {0}) FileFault
 carried as_file (Ok u) = Ok u
@@ -28,11 +23,11 @@ carried as_file (Err f) = Err (as_file f)
 -- the section is read into the review, or its fault is carried
 abbrev pub Entered : Section → Meaning → Result (Unit {0}) FileFault → Meaning → Type 0
 Entered (code.Left bytes place) m r n =
-    (r ≡ carried (λ f. InLeft f place) (answer_of (listing bytes.now)))
-    × (n ≡ record m { lefts = commands_after (listing bytes.now) m.lefts })
+    (s : Result (Unit {0}) ListingFault) × (r ≡ carried (λ f. InLeft f place) s)
+    × ListingRead bytes.now m.lefts s n.lefts × (n ≡ record m { lefts = n.lefts })
 Entered (code.Right bytes place) m r n =
-    (r ≡ carried (λ f. InRight f place) (answer_of (listing bytes.now)))
-    × (n ≡ record m { rights = commands_after (listing bytes.now) m.rights })
+    (s : Result (Unit {0}) ListingFault) × (r ≡ carried (λ f. InRight f place) s)
+    × ListingRead bytes.now m.rights s n.rights × (n ≡ record m { rights = n.rights })
 Entered (code.Rename numbers place) m r n =
     (s : Result (Unit {0}) NamesFault) × (r ≡ carried (λ f. InNames f place) s)
     × NamesSet numbers.now m.numbers s n.numbers × (n ≡ record m { numbers = n.numbers })

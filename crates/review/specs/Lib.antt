@@ -7,6 +7,7 @@ pub mod FileFaults
 pub mod Limits
 pub mod LineFaults
 pub mod Lines
+pub mod Offsets
 pub mod Order
 pub mod Picking
 pub mod Readers

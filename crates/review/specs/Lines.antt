@@ -1,5 +1,5 @@
 -- The lines of a report, byte by byte.
-use Rattle.std.specs.Prelude.{◌≡◌, ℕ, ◌-◌, ◌^◌, ◌<◌, ◌≤◌, cond, List, [], ◌∷◌, ◌++◌, length, drop, codes, min, Ok, Err, Result, nat_lt}
+use Rattle.std.specs.Prelude.{◌≡◌, ℕ, ◌-◌, ◌<◌, ◌≤◌, cond, List, [], ◌∷◌, ◌++◌, length, drop, codes, Ok, Err, Result, nat_lt}
 use Rattle.std.specs.Fmt.{decimal}
 use Rattle.std.specs.List.{flat_map}
 use Rattle.locks.specs.declared.together.Side.TheVariants.{Left, Right}
@@ -13,6 +13,7 @@ use Rattle.review.specs.FileFaults.{within_name}
 use Rattle.review.specs.declared.lines.fault.LineFault.{LineFault}
 use Rattle.review.specs.declared.lines.line.Line.{Line}
 use Rattle.review.specs.declared.lines.line.Line.TheVariants.{Reached, Never, Missing, Refused}
+use Rattle.review.specs.Limits.{counted}
 
 -- a newline
 abbrev pub newline : List ℕ
@@ -61,10 +62,6 @@ said (Refused number place within) = refused_text number place within
 
 abbrev pub line_text : Line → List ℕ
 line_text l = said l ++ newline
-
--- a number that is too large to be counted is told as the largest
-abbrev pub counted : ℕ → ℕ
-counted n = min n (2 ^ 64 - 1)
 
 -- The text stands at the front of the space, up to `at`, where it fits, and the rest is as it was before.
 pub record Filled (before text after : List ℕ) (at : ℕ) : Type 0 where

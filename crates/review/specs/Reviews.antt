@@ -1,15 +1,16 @@
 -- What a whole file says, or why it is refused.
-use Rattle.std.specs.Prelude.{◌≡◌, ℕ, ◌+◌, ◌<◌, ◌≤◌, List, [], ◌∷◌, ◌++◌, map, length, vec_items, Ok, Err, Result}
+use Rattle.std.specs.Prelude.{◌≡◌, ℕ, ◌+◌, ◌<◌, ◌≤◌, List, [], ◌∷◌, ◌++◌, map, length, vec_items, Ok, Err, Result, OnErr}
 use Rattle.std.specs.List.{AllByRecursion}
 use Rattle.layers.specs.Naming.{numbers_in, NumbersAnswer}
 use Rattle.layers.specs.Numbers.{in_order}
 use Rattle.readers.specs.declared.listing.command.Command as listed
 use Rattle.readers.specs.declared.listing.command.Command.TheVariants.{Stop}
 use Rattle.readers.specs.Place.{commands_in}
-use Rattle.readers.specs.Reading.{listing}
+use Rattle.readers.specs.Saying.{ListingSays}
 use Rattle.search.specs.declared.threads.Pair.{Pair}
 use Rattle.layers.specs.declared.renamed.Renamed.{Renamed}
 use Rattle.readers.specs.declared.listing.place.Listing.{Listing}
+use Rattle.review.specs.declared.file.content.Content.{Content}
 use Rattle.review.specs.declared.file.fault.FileFault.{FileFault}
 use Rattle.review.specs.declared.file.fault.FileFault.TheVariants.{TooLong, EndsEarly, NotAllowed, InLeft, InRight, InNames}
 use Rattle.review.specs.declared.file.phase.Phase.TheVariants.{BeforeLeft}
@@ -30,8 +31,11 @@ pub record Meaning : Type 0 where
 abbrev pub meaning_of : Listing → Renamed Listing → List Pair → Meaning
 meaning_of l r pairs = record { lefts = commands_in l; rights = commands_in r.graph; numbers = numbers_in r.names; pairs = pairs }
 
+abbrev pub content_of : Content → Meaning
+content_of c = meaning_of c.left c.right (vec_items c.pairs)
+
 abbrev pub review_of : Review → Meaning
-review_of r = meaning_of r.left r.right (vec_items r.pairs)
+review_of r = content_of r.shown
 
 -- both threads are one location without steps
 abbrev pub blank : Meaning
@@ -55,14 +59,14 @@ pub record Written (bs : List ℕ) (m : Meaning) : Type 0 where
   pub renamings : List (List ℕ)
   pub whole : bs ≡ encode (file_commands left_bytes right_bytes renamings m.pairs)
   pub sized : AllByRecursion Sized (file_commands left_bytes right_bytes renamings m.pairs)
-  pub lefts : listing left_bytes ≡ Ok m.lefts
-  pub rights : listing right_bytes ≡ Ok m.rights
+  pub lefts : ListingSays left_bytes (Ok m.lefts)
+  pub rights : ListingSays right_bytes (Ok m.rights)
   pub numbers : NumbersFrom renamings m.numbers
 
 -- the section of a command is well formed
 abbrev pub Sound : Command → Type 0
-Sound (left bs) = (cs : List listed.Command) × (listing bs ≡ Ok cs)
-Sound (right bs) = (cs : List listed.Command) × (listing bs ≡ Ok cs)
+Sound (left bs) = (cs : List listed.Command) × ListingSays bs (Ok cs)
+Sound (right bs) = (cs : List listed.Command) × ListingSays bs (Ok cs)
 Sound (rename ns) = NumbersAnswer ns (Ok tt)
 Sound (pair a b) = Unit {0}
 Sound end = Unit {0}
@@ -93,18 +97,21 @@ FileSays bs (Err (EndsEarly at)) =
 FileSays bs (Err (NotAllowed at)) =
     (length bs ≤ most_bytes)
     × ((cs : List Command) × (rest : List ℕ) × Front bs cs rest × Forbidden (phase_behind BeforeLeft cs) rest × (at ≡ length (encode cs)))
-FileSays bs (Err (InLeft f place)) = (length bs ≤ most_bytes) × ((l : List ℕ) × FaultIn bs (left l) place × (listing l ≡ Err f))
-FileSays bs (Err (InRight f place)) = (length bs ≤ most_bytes) × ((l : List ℕ) × FaultIn bs (right l) place × (listing l ≡ Err f))
+FileSays bs (Err (InLeft f place)) = (length bs ≤ most_bytes) × ((l : List ℕ) × FaultIn bs (left l) place × ListingSays l (Err f))
+FileSays bs (Err (InRight f place)) = (length bs ≤ most_bytes) × ((l : List ℕ) × FaultIn bs (right l) place × ListingSays l (Err f))
 FileSays bs (Err (InNames f place)) = (length bs ≤ most_bytes) × ((ns : List ℕ) × FaultIn bs (rename ns) place × NumbersAnswer ns (Err f))
 
-abbrev pub meaning_in : Result Review FileFault → Result Meaning FileFault
-meaning_in (Ok r) = Ok (review_of r)
-meaning_in (Err f) = Err f
+-- what was filled in, or the fault that came in its way
+abbrev pub filled : Result (Unit {0}) FileFault → Meaning → Result Meaning FileFault
+filled (Ok u) m = Ok m
+filled (Err f) m = Err f
 
--- the answer is the one whose condition holds, and no other answer's condition does
-pub record FileRead (bs : List ℕ) (r : Result Review FileFault) : Type 0 where
-  pub says : FileSays bs (meaning_in r)
-  pub only : (q : Result Meaning FileFault) → FileSays bs q → q ≡ meaning_in r
+-- The answer is the one whose condition holds, with what is there afterwards, and no other answer's condition does. A
+-- refusal leaves the threads, the names and the pairs as they were.
+pub record FileRead (bs : List ℕ) (before : Meaning) (r : Result (Unit {0}) FileFault) (after : Meaning) : Type 0 where
+  pub says : FileSays bs (filled r after)
+  pub only : (q : Result Meaning FileFault) → FileSays bs q → q ≡ filled r after
+  pub stays : OnErr r (after ≡ before)
 
 -- a file that is written from its parts, with well-formed sections, says just these parts
 abbrev pub FilesReadBack : Type 0
@@ -112,6 +119,6 @@ FilesReadBack =
     (l r : List ℕ) (renamings : List (List ℕ)) (pairs : List Pair) (lefts rights : List listed.Command) (ns : List ℕ) (q : Result Meaning FileFault)
     → length (encode (file_commands l r renamings pairs)) ≤ most_bytes
     → AllByRecursion Sized (file_commands l r renamings pairs)
-    → listing l ≡ Ok lefts → listing r ≡ Ok rights → NumbersFrom renamings ns
+    → ListingSays l (Ok lefts) → ListingSays r (Ok rights) → NumbersFrom renamings ns
     → FileSays (encode (file_commands l r renamings pairs)) q
     → q ≡ Ok (record { lefts = lefts; rights = rights; numbers = ns; pairs = pairs })

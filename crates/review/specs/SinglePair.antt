@@ -13,7 +13,7 @@ use Rattle.readers.specs.declared.listing.fault.ListingFault.{ListingFault}
 use Rattle.readers.specs.Encoding.{two_bytes}
 use Rattle.readers.specs.Faults.{listing_refusal}
 use Rattle.readers.specs.Graph.{listing_graph}
-use Rattle.readers.specs.Reading.{listing}
+use Rattle.readers.specs.Saying.{ListingSays}
 use Rattle.runs.specs.declared.calls.Answer.{Answer}
 use Rattle.runs.specs.declared.calls.Answer.TheVariants as back
 use Rattle.runs.specs.Scripts.{written, blank}
@@ -52,9 +52,9 @@ GraphsSay G H p before q after = BySummaries G H (RefusalAnswered before q after
 -- the refusal of a listing, the left one first, or the answer by their graphs
 abbrev pub ListingsSay : List ℕ → List ℕ → Pair → List ℕ → Result Verdict Refusal → List ℕ → Type 0
 ListingsSay l r p before q after =
-    ((f : ListingFault) × (listing l ≡ Err f) × (q ≡ Err (listing_refusal f)) × (after ≡ before))
-    ⊎ (((cs : List listed.Command) × (f : ListingFault) × (listing l ≡ Ok cs) × (listing r ≡ Err f) × (q ≡ Err (listing_refusal f)) × (after ≡ before))
-    ⊎ ((cs : List listed.Command) × (ds : List listed.Command) × (listing l ≡ Ok cs) × (listing r ≡ Ok ds) × GraphsSay (listing_graph cs) (listing_graph ds) p before q after))
+    ((f : ListingFault) × ListingSays l (Err f) × (q ≡ Err (listing_refusal f)) × (after ≡ before))
+    ⊎ (((cs : List listed.Command) × (f : ListingFault) × ListingSays l (Ok cs) × ListingSays r (Err f) × (q ≡ Err (listing_refusal f)) × (after ≡ before))
+    ⊎ ((cs : List listed.Command) × (ds : List listed.Command) × ListingSays l (Ok cs) × ListingSays r (Ok ds) × GraphsSay (listing_graph cs) (listing_graph ds) p before q after))
 
 -- what the answer to an ask says
 abbrev pub AskTold : {A B : Type 0} → Option (Answer A B) → List ℕ → Result Verdict Refusal → List ℕ → Type 0

@@ -51,14 +51,12 @@ KindHere p b n (Ok k) = (b ≡ first_byte k) × Allowed p k × (least k ≤ n)
 KindHere p b n (Err NotAllowed) = (k : CommandKind) → first_byte k ≡ b → Allowed p k → ⊥
 KindHere p b n (Err EndsEarly) = (k : CommandKind) × (b ≡ first_byte k) × Allowed p k × (n < least k)
 
--- a run of bytes behind its length, or too few bytes for one
-abbrev pub TakesRun : List ℕ → Result (Bor (List ℕ) × Bor (List ℕ)) Wrong → Type 0
-TakesRun bs (Ok t) = (length t.0.now < 65536) × (bs ≡ two_bytes (length t.0.now) ++ (t.0.now ++ t.1.now))
-TakesRun bs (Err NotAllowed) = ⊥
-TakesRun bs (Err EndsEarly) = (xs ys : List ℕ) → length xs < 65536 → bs ≡ two_bytes (length xs) ++ (xs ++ ys) → ⊥
+-- the run of bytes whose length the size spells, or too few bytes for it
+abbrev pub TakesRun : List ℕ → List ℕ → Result (Bor (List ℕ) × Bor (List ℕ)) Wrong → Type 0
+TakesRun size bs (Ok t) = (length t.0.now < 65536) × (size ≡ two_bytes (length t.0.now)) × (bs ≡ t.0.now ++ t.1.now)
+TakesRun size bs (Err NotAllowed) = ⊥
+TakesRun size bs (Err EndsEarly) = (xs ys : List ℕ) → length xs < 65536 → size ≡ two_bytes (length xs) → bs ≡ xs ++ ys → ⊥
 
--- the operands of PAIR, or too few bytes for them
-abbrev pub TakesPair : List ℕ → Result (Section × Bor (List ℕ)) Wrong → Type 0
-TakesPair bs (Ok t) = (a : ℕ) × (b : ℕ) × (command_of t.0 ≡ pair a b) × Sized (pair a b) × (bs ≡ operands (pair a b) ++ t.1.now)
-TakesPair bs (Err NotAllowed) = ⊥
-TakesPair bs (Err EndsEarly) = length bs < 4
+-- the section of a PAIR with these operands
+abbrev pub TakesPair : List ℕ → Section → Type 0
+TakesPair ns x = (a : ℕ) × (b : ℕ) × (command_of x ≡ pair a b) × Sized (pair a b) × (ns ≡ operands (pair a b))

@@ -1,4 +1,5 @@
 // A review file: LEFT and RIGHT with a listing each, at most one RENAME, any number of PAIR, and END.
+mod content;
 mod fault;
 mod kind;
 mod laws;
@@ -9,7 +10,10 @@ mod section;
 mod taking;
 
 pub use fault::{FileFault, Within};
-pub use laws::{files_read_back, sections_stand_behind_headers, worked_file_is_its_bytes};
+pub use laws::{
+    faults_stand_at_their_offsets, files_read_back, sections_stand_behind_headers,
+    worked_file_is_its_bytes,
+};
 pub use phase::Phase;
 pub use reader::Reader;
 pub use review::Review;

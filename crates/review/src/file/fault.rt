@@ -1,6 +1,6 @@
 // What can be wrong with a review file, and how it is refused.
 ghost use Rattle.std.specs.Prelude.{◌≡◌};
-ghost use Rattle.review.specs.FileFaults.{file_refusal, of_file, within, within_name};
+ghost use Rattle.review.specs.FileFaults.{file_refusal, file_offset, of_file, within, within_name};
 
 use crate::file::MOST_BYTES;
 use layers::names::NamesFault;
@@ -48,6 +48,21 @@ impl FileFault {
         ensures { result ≡ file_refusal self }
     {
         Refusal::from(self)
+    }
+
+    // Where in the file the fault stands. Values that no file gives may be more than can be counted: then it is the
+    // largest number.
+    pub fn file_offset(self) -> usize
+        ensures { result ≡ file_offset self }
+    {
+        match self {
+            FileFault::TooLong => MOST_BYTES,
+            FileFault::EndsEarly { at } | FileFault::NotAllowed { at } => at,
+            FileFault::InLeft { fault, place } | FileFault::InRight { fault, place } => {
+                place.saturating_add(fault.at)
+            }
+            FileFault::InNames { fault, place } => place.saturating_add(fault.at),
+        }
     }
 
     pub fn within(self) -> Within

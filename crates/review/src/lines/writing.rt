@@ -1,6 +1,7 @@
 // Writing a line into lent space.
 ghost use Rattle.std.specs.Prelude.{◌≡◌, length};
-ghost use Rattle.review.specs.Lines.{pair_text, reached_text, missing_number, missing_text, refused_text, line_text, counted, Filled, LineWritten};
+ghost use Rattle.review.specs.Limits.{counted};
+ghost use Rattle.review.specs.Lines.{pair_text, reached_text, missing_number, missing_text, refused_text, line_text, Filled, LineWritten};
 
 use crate::file::Within;
 use crate::lines::putting::{put, put_moves, put_number};

@@ -25,8 +25,9 @@ use std::alloc::{AllocError, Global};
 pub fn report(heap: Global, file: &[u8]) -> Result<Vec<u8>, AllocError>
     ensures { IfOk result (λ text. Reports file.now text.items) }
 {
-    match Review::blank(heap)?.read(file) {
-        Ok(review) => judge(heap, review),
+    let mut review = Review::blank(heap)?;
+    match review.read(file) {
+        Ok(()) => judge(heap, review),
         Err(fault) => print(heap, &[refused(fault.refusal(), fault.within())]),
     }
 }

@@ -3,7 +3,8 @@ ghost use Rattle.std.specs.Prelude.{◌≡◌, [], ◌∷◌, length, IfOk};
 ghost use Rattle.readers.specs.declared.listing.command.Command.TheVariants.{Stop};
 ghost use Rattle.readers.specs.contracts.listing.place.questions.ListingThreadGraph.TheImpl.{ghosts as listing_ghosts};
 ghost use Rattle.readers.specs.Graph.{listing_graph};
-ghost use Rattle.readers.specs.Place.{commands_in, command_at, Reads, Means};
+ghost use Rattle.readers.specs.Place.{commands_in, command_at};
+ghost use Rattle.readers.specs.Saying.{ListingRead};
 
 use crate::listing::command::MOST_COMMANDS;
 use crate::listing::passes::{check, fill};
@@ -23,9 +24,8 @@ impl Listing {
 
     // The whole input is checked before the place is touched.
     pub fn read(&mut self, bytes: &[u8]) -> Result<(), ListingFault>
-        ensures reads { Reads bytes.now (commands_in self.old) result (commands_in self.new) }
+        ensures reads { ListingRead bytes.now (commands_in self.old) result (commands_in self.new) }
         ensures graph { listing_ghosts.meaning self.new ≡ listing_graph (commands_in self.new) }
-        ensures means { Means bytes.now result (commands_in self.new) }
     {
         check(bytes)?;
         fill(&mut self.commands, bytes);

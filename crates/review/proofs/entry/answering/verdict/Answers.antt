@@ -1,17 +1,16 @@
-use Rattle.std.proofs.Common.{refl, ap, inl, inr, ◌∙◌, Err}
+use Rattle.std.proofs.Common.{Err, refl, ap, ◌∙◌, inl, inr}
 use Rattle.std.proofs.lemmas.Result.{err_from_is_err_and}
-use Rattle.review.proofs.Entering.{was_read, was_refused}
 use Rattle.review.proofs.entry.answering.verdict.Goals as goal
 
 pub returns-in_err-read : goal.returns-in_err-read
 returns-in_err-read c =
     let told = err_from_is_err_and c.from_residual.result c.from_residual.ensures.1 in
-    inl (_, was_refused _ _ _ _ c.in_err-read.ensures.reads, told.1 ∙ ap (λ r. Err r) told.2, refl)
+    inl (_, c.in_err-read.ensures.reads.says, told.1 ∙ ap (λ r. Err r) told.2, refl)
 
 pub returns-in_err-read-2 : goal.returns-in_err-read-2
 returns-in_err-read-2 c =
     let told = err_from_is_err_and c.from_residual-in_err-read-2.result c.from_residual-in_err-read-2.ensures.1 in
-    inr (inl (_, _, was_read _ _ _ c.in_ok-read.ensures.reads, was_refused _ _ _ _ c.in_err-read-2.ensures.reads, told.1 ∙ ap (λ r. Err r) told.2, refl))
+    inr (inl (_, _, c.in_ok-read.ensures.reads.says, c.in_err-read-2.ensures.reads.says, told.1 ∙ ap (λ r. Err r) told.2, refl))
 
 pub returns : goal.returns
-returns c = inr (inr (_, _, was_read _ _ _ c.in_ok-read.ensures.reads, was_read _ _ _ c.in_ok-read-2.ensures.reads, c.judge.ensures))
+returns c = inr (inr (_, _, c.in_ok-read.ensures.reads.says, c.in_ok-read-2.ensures.reads.says, c.judge.ensures))

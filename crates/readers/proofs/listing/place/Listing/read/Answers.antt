@@ -3,7 +3,7 @@ use Rattle.std.proofs.Common.{sym, ap, ◌∙◌, arith}
 use Rattle.std.proofs.lemmas.Result.{err_from_is_err_and}
 use Rattle.readers.specs.Flow.{is_well_formed}
 use Rattle.readers.proofs.Accepted.{few_commands, accepted_sound}
-use Rattle.readers.proofs.Meaning.{means_read, means_refused}
+use Rattle.readers.proofs.Saying.{read_accepted, read_refused}
 use Rattle.readers.proofs.listing.place.Listing.read.Goals as goal
 
 pub fill-requires : goal.fill-requires
@@ -15,10 +15,10 @@ invariant_of-self c = record {
   sound = ap is_well_formed c.fill.ensures.items ∙ accepted_sound c.args.bytes.now (sym c.in_ok-check.ensures);
 }
 
-pub returns-clause-means : goal.returns-clause-means
-returns-clause-means c = means_read _ c.type_inv.bytes _ c.in_ok-check.ensures c.fill.ensures.items
+pub returns-clause-reads : goal.returns-clause-reads
+returns-clause-reads c = read_accepted _ c.type_inv.bytes _ _ c.in_ok-check.ensures c.fill.ensures.items
 
-pub returns-in_err-check-clause-means : goal.returns-in_err-check-clause-means
-returns-in_err-check-clause-means c =
+pub returns-in_err-check-clause-reads : goal.returns-in_err-check-clause-reads
+returns-in_err-check-clause-reads c =
     let p = err_from_is_err_and c.from_residual.result c.from_residual.ensures.1 in
-    rw (p.1, p.2) (means_refused _ c.type_inv.bytes _ c.in_err-check.ensures)
+    rw (p.1, p.2) (read_refused _ c.type_inv.bytes _ _ c.in_err-check.ensures)

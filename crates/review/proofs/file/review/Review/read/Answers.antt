@@ -1,19 +1,15 @@
-use Rattle.std.specs.Prelude.{Ok, Err}
+use Rattle.std.proofs.Common.{Ok, sym, subst}
 use Rattle.std.proofs.lemmas.Result.{err_from_is_err_and}
-use Rattle.review.specs.Reviews.{review_of}
-use Rattle.review.proofs.OneAnswer.{one_answer}
+use Rattle.review.specs.Reviews.{FileRead, content_of, review_of}
+use Rattle.review.proofs.OneAnswer.{read_whole, read_refused}
 use Rattle.review.proofs.file.review.Review.read.Goals as goal
 
 pub returns-in_err-fill : goal.returns-in_err-fill
 returns-in_err-fill c =
     let p = err_from_is_err_and c.from_residual.result c.from_residual.ensures.1 in
-    rw (p.1, p.2) (record {
-      says = c.in_err-fill.ensures;
-      only = λ q says. one_answer c.args.file.now q (Err c.in_err-fill.field-0.0) says c.in_err-fill.ensures;
-    })
+    rw (p.1, p.2) (read_refused c.args.file.now (review_of c.args.self.now) c.in_err-fill.field-0.0 c.in_err-fill.ensures)
 
 pub returns : goal.returns
-returns c = record {
-  says = c.in_ok-fill.ensures;
-  only = λ q says. one_answer c.args.file.now q (Ok (review_of c.fill.new.self)) says c.in_ok-fill.ensures;
-}
+returns c =
+    subst (λ shown. FileRead c.args.file.now (review_of c.args.self.now) (Ok tt) (content_of shown)) (sym c.swap.ensures.x_after)
+    (read_whole c.args.file.now (review_of c.args.self.now) (content_of c.fill.new.self) c.in_ok-fill.ensures)
