@@ -1,10 +1,11 @@
 -- What the answers to the calls of a review say of its threads and its pairs.
-use Rattle.std.proofs.Common.{◌≡◌, ℕ, zero, suc, ◌+◌, ◌-◌, ◌<◌, ◌≤◌, ◌⊎◌, false, List, [], ◌∷◌, ◌++◌, map, length, take, drop, Some, None, Option, Ok, Err, Result, vec_items, sym, refl, ap, subst, ◌∙◌, inl, inr, append-nil, arith}
+use Rattle.std.proofs.Common.{◌≡◌, ℕ, zero, suc, ◌+◌, ◌-◌, ◌<◌, ◌≤◌, ◌⊎◌, false, List, [], ◌∷◌, ◌++◌, map, length, take, drop, Some, None, Option, Ok, Err, Result, vec_items, sym, refl, ap, subst, ◌∙◌, inl, inr, lit<, arith}
 use Rattle.std.specs.Prelude.{IfOk}
 use Rattle.std.specs.List.{slice_get, flat_map}
 use Rattle.std.specs.Option.{option_map}
 use Rattle.std.proofs.lemmas.List.{length-map, length-take-le, length-drop, take_all}
 use Rattle.std.proofs.lemmas.Option.{slice_get-map}
+use Rattle.locks.specs.declared.faults.Fault.TheVariants as fault
 use Rattle.locks.specs.declared.refusals.Refusal.{Refusal}
 use Rattle.locks.specs.declared.together.Side.{Side}
 use Rattle.locks.specs.declared.together.Side.TheVariants.{Left, Right}
@@ -25,18 +26,20 @@ use Rattle.runs.specs.Rules.{KeepsTheRules, IsSummarised, NotSummarised, Summari
 use Rattle.runs.specs.Running.{RunRight}
 use Rattle.search.specs.declared.entries.Entry.{Entry}
 use Rattle.search.specs.declared.faults.SummariseFault.{SummariseFault}
+use Rattle.search.specs.declared.faults.SummariseFault.TheVariants.{TooManyStates, Reaches}
 use Rattle.search.specs.declared.threads.Pair.{Pair}
 use Rattle.search.specs.Faults.{summarise_refusal}
 use Rattle.search.specs.Summarising.{Accepted, Refused, Summarised}
 use Rattle.search.proofs.SummaryLaws.{accepted_not_refused}
-use Rattle.review.specs.declared.file.fault.Within.{Within}
 use Rattle.review.specs.declared.lines.line.Line.{Line}
-use Rattle.review.specs.Asking.{question_of, asks_of, review_calls, Refuses, ByAnswers}
+use Rattle.review.specs.declared.report.error.ReportError.{ReportError}
+use Rattle.review.specs.declared.report.error.ReportError.TheVariants.{Summary}
+use Rattle.review.specs.Asking.{question_of, asks_of, review_calls, SummaryTold, ByAnswers}
 use Rattle.review.specs.Cases.{BySummaries}
 use Rattle.review.specs.Telling.{Told, told, LinesTell, lines_text}
 use Rattle.review.specs.Lines.{line_text}
 use Rattle.review.specs.Picking.{Picks}
-use Rattle.review.specs.Reports.{refusal_line, PairLine, PairLines, RefusalPrinted, ReviewSays}
+use Rattle.review.specs.Reports.{PairLine, PairLines, ReviewAnswers, OutOfMemoryOr}
 use Rattle.review.proofs.Picking.{as_many_picked, picked_at}
 
 -- asks leave the folders as they are
@@ -119,6 +122,22 @@ pair_line G H ps lent long i p (Err (NoSummary s)) after a b h = no_summary_miss
 pair_line G H ps lent long i p (Err (NoLocation s)) after a b h = inl (s, h.says.2, refl)
 pair_line G H ps lent long i p (Err (TooShort n)) after a b h = let short = not_too_short G H ps lent i p n after a b h in absurd (omega arith)
 
+-- no two faults of a summary have one refusal
+
+apart : {X : Type 0} (r s : Refusal) → r ≡ s → r.number < s.number → X
+apart r s h less = let same = ap (λ x. x.number) h in absurd (omega arith)
+
+one_fault : (e d : SummariseFault) → summarise_refusal e ≡ summarise_refusal d → e ≡ d
+one_fault TooManyStates TooManyStates h = refl
+one_fault TooManyStates (Reaches fault.Nesting p) h = apart _ _ h (lit< tt)
+one_fault TooManyStates (Reaches fault.Depth p) h = apart _ _ h (lit< tt)
+one_fault (Reaches fault.Nesting p) TooManyStates h = apart _ _ (sym h) (lit< tt)
+one_fault (Reaches fault.Nesting p) (Reaches fault.Nesting n) h = ap (Reaches fault.Nesting) (ap (λ r. r.place) h)
+one_fault (Reaches fault.Nesting p) (Reaches fault.Depth n) h = apart _ _ h (lit< tt)
+one_fault (Reaches fault.Depth p) TooManyStates h = apart _ _ (sym h) (lit< tt)
+one_fault (Reaches fault.Depth p) (Reaches fault.Nesting n) h = apart _ _ (sym h) (lit< tt)
+one_fault (Reaches fault.Depth p) (Reaches fault.Depth n) h = ap (Reaches fault.Depth) (ap (λ r. r.place) h)
+
 -- a run of these calls
 
 first_of_two : {X : Type 0} (xs : List X) → 2 ≤ length xs → (x : X) × (slice_get xs 0 ≡ Some x)
@@ -139,17 +158,17 @@ module _ {A B : Type 0} (f : A → Graph) (g : B → Graph) where
   abbrev pub means : Answer A B → AnswerMeaning
   means = answer_meaning f g
 
-  -- what a summarise says by its answer: the refusal that applies, or that the graph is accepted
+  -- what a summarise says by its answer: the fault that applies, or that the graph is accepted
   abbrev Summed : Graph → Answer A B → Type 0
   Summed K x =
-      ((e : SummariseFault) × (x ≡ back.Summarised (Err e)) × ((d : SummariseFault) × Refused K d × (summarise_refusal e ≡ summarise_refusal d)))
+      ((e : SummariseFault) × (x ≡ back.Summarised (Err e)) × Refused K e)
       ⊎ (((e : SummariseFault) → x ≡ back.Summarised (Err e) → ⊥) × Accepted K)
 
   by_answer : (K : Graph) (x : Answer A B) (q : Result ℕ SummariseFault) (table : List Entry) → means x ≡ summarised (numbered summarise_refusal q) → Summarised K q table → Summed K x
   by_answer K (back.Summarised (Ok n)) (Ok m) table e s = inr ((λ d no. cc), s.says.0)
   by_answer K (back.Summarised (Ok n)) (Err d) table e s = cc
   by_answer K (back.Summarised (Err x)) (Ok m) table e s = cc
-  by_answer K (back.Summarised (Err x)) (Err d) table e s = inl (x, refl, (d, s.says.0, (let same : summarise_refusal x ≡ summarise_refusal d = cc in same)))
+  by_answer K (back.Summarised (Err x)) (Err d) table e s = inl (x, refl, subst (Refused K) (one_fault d x (let same : summarise_refusal d ≡ summarise_refusal x = cc in same)) s.says.0)
   by_answer K (back.ExchangedFirst k) q table e s = cc
   by_answer K (back.ExchangedSecond k) q table e s = cc
   by_answer K (back.Entry k) q table e s = cc
@@ -220,33 +239,27 @@ module _ {A B : Type 0} (f : A → Graph) (g : B → Graph) (a : A) (b : B) (cs 
   some_answer = let many = as_many in omega arith
 
   -- a refused summary, by the answer at its place
-  refused_by : (K : Graph) (n : ℕ) (r : Refusal) → ((x : Answer A B) → slice_get answers n ≡ Some x → Summed f g K x) → Refuses answers n (Some r) → (d : SummariseFault) × Refused K d × (r ≡ summarise_refusal d)
-  refused_by K n r summed h = by (summed (back.Summarised (Err h.0)) h.1)
+  refused_by : (K : Graph) (n : ℕ) (e : SummariseFault) → ((x : Answer A B) → slice_get answers n ≡ Some x → Summed f g K x) → SummaryTold answers n (Err e) → Refused K e
+  refused_by K n e summed h = by (summed (back.Summarised (Err e)) h)
     where
-      by : Summed f g K (back.Summarised (Err h.0)) → (d : SummariseFault) × Refused K d × (r ≡ summarise_refusal d)
-      by (inl q) = let same : h.0 ≡ q.0 = (let is = q.1 in cc) in (q.2.0, q.2.1, h.2 ∙ ap summarise_refusal same ∙ q.2.2)
-      by (inr q) = absurd (q.0 h.0 refl)
+      by : Summed f g K (back.Summarised (Err e)) → Refused K e
+      by (inl q) = let same : q.0 ≡ e = (let is = q.1 in cc) in subst (Refused K) same q.2
+      by (inr q) = absurd (q.0 e refl)
 
-  accepted_by : (K : Graph) (n : ℕ) (x : Answer A B) → slice_get answers n ≡ Some x → Summed f g K x → Refuses answers n None → Accepted K
+  accepted_by : (K : Graph) (n : ℕ) (x : Answer A B) → slice_get answers n ≡ Some x → Summed f g K x → SummaryTold answers n (Ok tt) → Accepted K
   accepted_by K n x e (inl q) h = absurd (h q.0 (e ∙ ap (λ y. Some y) q.1))
   accepted_by K n x e (inr q) h = q.1
 
-  pub accepted_left : Refuses answers 0 None → Accepted (f a)
+  accepted_left : SummaryTold answers 0 (Ok tt) → Accepted (f a)
   accepted_left h = let x = first_of_two answers some_answer in accepted_by (f a) 0 x.0 x.1 (left_summary x.0 x.1) h
 
-  pub accepted_right : Refuses answers 1 None → Accepted (g b)
+  accepted_right : SummaryTold answers 1 (Ok tt) → Accepted (g b)
   accepted_right h = let x = second_of_two answers some_answer in accepted_by (g b) 1 x.0 x.1 (right_summary x.0 x.1) h
 
-  pub first_refused : (r : Refusal) → Refuses answers 0 (Some r) → (d : SummariseFault) × Refused (f a) d × (r ≡ summarise_refusal d)
-  first_refused r h = refused_by (f a) 0 r left_summary h
-
-  pub second_refused : (r : Refusal) → Refuses answers 1 (Some r) → (d : SummariseFault) × Refused (g b) d × (r ≡ summarise_refusal d)
-  second_refused r h = refused_by (g b) 1 r right_summary h
-
-  -- what follows from the answers, where both graphs are accepted, and the refusals
-  pub by_summaries : (refusing : Side → Refusal → Type 0) (X Y : Type 0) → (Accepted (f a) → Accepted (g b) → X → Y) → ByAnswers answers refusing X → BySummaries (f a) (g b) refusing Y
-  by_summaries refusing X Y k (inl t) = let d = first_refused t.0 t.1 in inl (d.0, d.1, subst (refusing Left) d.2 t.2)
-  by_summaries refusing X Y k (inr (inl t)) = let s = t.1 in let d = second_refused s.0 s.1 in inr (inl (d.0, accepted_left t.0, d.1, subst (refusing Right) d.2 s.2))
+  -- what follows from the answers, where both graphs are accepted, and the faults
+  pub by_summaries : (refusing : Side → SummariseFault → Type 0) (X Y : Type 0) → (Accepted (f a) → Accepted (g b) → X → Y) → ByAnswers answers refusing X → BySummaries (f a) (g b) refusing Y
+  by_summaries refusing X Y k (inl t) = inl (t.0, refused_by (f a) 0 t.0 left_summary t.1, t.2)
+  by_summaries refusing X Y k (inr (inl t)) = let s = t.1 in inr (inl (s.0, accepted_left t.0, refused_by (g b) 1 s.0 right_summary s.1, s.2))
   by_summaries refusing X Y k (inr (inr t)) = let one = accepted_left t.0 in let two = accepted_right t.1 in inr (inr (one, two, k one two t.2))
 
 -- the lines of a run
@@ -289,14 +302,14 @@ module _ {A B : Type 0} (f : A → Graph) (g : B → Graph) (a : A) (b : B) (cs 
       each = picked_line ls picked one two tell picks;
     }
 
-    -- what is told of a run's answers is what is to be said of its graphs
-    pub told_says : (text : List ℕ) → Told ps ns (vec_items ran.answers) text → ReviewSays (f a) (g b) pairs text
-    told_says text t = by_summaries f g a b cs ran right ps lent script (RefusalPrinted text) _ (PairLines (f a) (g b) pairs text) (λ one two x. picked_lines x.0 x.1 text one two (x.2 f g) x.3 x.4) t
+    -- what is told of a run's answers is what its graphs are answered with
+    pub told_answers : (r : Result (List ℕ) ReportError) → Told ps ns (vec_items ran.answers) r → ReviewAnswers (f a) (g b) pairs r
+    told_answers r t = by_summaries f g a b cs ran right ps lent script (λ s e. r ≡ Err (Summary s e)) _ ((text : List ℕ) × (r ≡ Ok text) × PairLines (f a) (g b) pairs text)
+        (λ one two x. (lines_text x.1, x.4, picked_lines x.0 x.1 (lines_text x.1) one two (x.2 f g) x.3 refl)) t
 
--- a report of one line, and a report by the meaning of a review
-
-pub one_line : (l : Line) (r : Refusal) (w : Within) (text : List ℕ) → line_text l ≡ refusal_line r w → text ≡ lines_text (l ∷ []) → text ≡ refusal_line r w
-one_line l r w text line is = is ∙ append-nil (line_text l) ∙ line
+pub memory_or : {P Q : Type 0} (r : Result (List ℕ) ReportError) → OutOfMemoryOr r P → (P → Q) → OutOfMemoryOr r Q
+memory_or r (inl out) k = inl out
+memory_or r (inr h) k = inr (k h)
 
 pub if_ok : {X E : Type 0} {P Q : X → Type 0} (r : Result X E) → IfOk r P → ((x : X) → P x → Q x) → IfOk r Q
 if_ok (Ok x) h k = k x h

@@ -9,6 +9,7 @@ pub mod Offsets
 pub mod OneAnswer
 pub mod Picking
 pub mod Reading
+pub mod Reporting
 pub mod Scripts
 pub mod Telling
 pub mod WorkedFiles

@@ -1,7 +1,6 @@
 -- The calls that a review makes, and which of the summaries are refused.
-use Rattle.std.specs.Prelude.{◌≡◌, ℕ, ◌⊎◌, List, ◌∷◌, ◌++◌, map, Some, None, Err, Option}
+use Rattle.std.specs.Prelude.{◌≡◌, ℕ, ◌⊎◌, List, ◌∷◌, ◌++◌, map, Some, Ok, Err, Result}
 use Rattle.std.specs.List.{slice_get}
-use Rattle.locks.specs.declared.refusals.Refusal.{Refusal}
 use Rattle.locks.specs.declared.together.Side.{Side}
 use Rattle.locks.specs.declared.together.Side.TheVariants as side
 use Rattle.locks.specs.Graphs.{Graph}
@@ -15,7 +14,6 @@ use Rattle.runs.specs.Calls.{CallMeaning, summarise, ask, call_meaning}
 use Rattle.runs.specs.Scripts.{ScriptContents, written}
 use Rattle.search.specs.declared.faults.SummariseFault.{SummariseFault}
 use Rattle.search.specs.declared.threads.Pair.{Pair}
-use Rattle.search.specs.Faults.{summarise_refusal}
 
 -- the left location is of the first folder, the right one of the second
 abbrev pub question_of : Pair → Question
@@ -38,13 +36,13 @@ abbrev pub more_calls : {A B : Type 0} → ScriptContents A B → List (Call A B
 more_calls s cs = record { calls = s.calls ++ cs; most = s.most }
 
 -- the answer at this place is a refused summarise, or none is there
-abbrev pub Refuses : {A B : Type 0} → List (Answer A B) → ℕ → Option Refusal → Type 0
-Refuses answers n (Some r) = (f : SummariseFault) × (slice_get answers n ≡ Some (back.Summarised (Err f))) × (r ≡ summarise_refusal f)
-Refuses answers n None = (f : SummariseFault) → slice_get answers n ≡ Some (back.Summarised (Err f)) → ⊥
+abbrev pub SummaryTold : {A B : Type 0} → List (Answer A B) → ℕ → Result (Unit {0}) SummariseFault → Type 0
+SummaryTold answers n (Err f) = slice_get answers n ≡ Some (back.Summarised (Err f))
+SummaryTold answers n (Ok u) = (f : SummariseFault) → slice_get answers n ≡ Some (back.Summarised (Err f)) → ⊥
 
--- the refusal of a summary, the left one's first, or what is said of the other answers
-abbrev pub ByAnswers : {A B : Type 0} → List (Answer A B) → (Side → Refusal → Type 0) → Type 0 → Type 0
+-- the fault of a summary, the left one's first, or what is said of the other answers
+abbrev pub ByAnswers : {A B : Type 0} → List (Answer A B) → (Side → SummariseFault → Type 0) → Type 0 → Type 0
 ByAnswers answers refusing accepting =
-    ((r : Refusal) × Refuses answers 0 (Some r) × refusing side.Left r)
-    ⊎ ((Refuses answers 0 None × ((r : Refusal) × Refuses answers 1 (Some r) × refusing side.Right r))
-    ⊎ (Refuses answers 0 None × Refuses answers 1 None × accepting))
+    ((f : SummariseFault) × SummaryTold answers 0 (Err f) × refusing side.Left f)
+    ⊎ ((SummaryTold answers 0 (Ok tt) × ((f : SummariseFault) × SummaryTold answers 1 (Err f) × refusing side.Right f))
+    ⊎ (SummaryTold answers 0 (Ok tt) × SummaryTold answers 1 (Ok tt) × accepting))

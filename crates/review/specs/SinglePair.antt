@@ -17,7 +17,9 @@ use Rattle.readers.specs.Saying.{ListingSays}
 use Rattle.runs.specs.declared.calls.Answer.{Answer}
 use Rattle.runs.specs.declared.calls.Answer.TheVariants as back
 use Rattle.runs.specs.Scripts.{written, blank}
+use Rattle.search.specs.declared.faults.SummariseFault.{SummariseFault}
 use Rattle.search.specs.declared.threads.Pair.{Pair}
+use Rattle.search.specs.Faults.{summarise_refusal}
 use Rattle.review.specs.declared.entry.room.VerdictRoom.{VerdictRoom}
 use Rattle.review.specs.Asking.{ByAnswers}
 use Rattle.review.specs.Cases.{BySummaries, ByPair}
@@ -41,9 +43,9 @@ abbrev pub PairSays : Graph → Graph → Pair → List ℕ → Result Verdict R
 PairSays G H p before q after =
     ByPair G H p (λ s. (q ≡ Err (ask_refusal (NoLocation s))) × (after ≡ before)) ((q ≡ Ok Never) × (after ≡ before)) (λ moves. MovesSay moves before q after)
 
--- the answer is this refusal, whichever thread it arose in, and the run stays
-abbrev pub RefusalAnswered : List ℕ → Result Verdict Refusal → List ℕ → Side → Refusal → Type 0
-RefusalAnswered before q after s r = (q ≡ Err r) × (after ≡ before)
+-- the answer is the refusal of this fault, whichever thread it arose in, and the run stays
+abbrev pub RefusalAnswered : List ℕ → Result Verdict Refusal → List ℕ → Side → SummariseFault → Type 0
+RefusalAnswered before q after s f = (q ≡ Err (summarise_refusal f)) × (after ≡ before)
 
 -- the refusal of a summary, or the answer to the ask
 abbrev pub GraphsSay : Graph → Graph → Pair → List ℕ → Result Verdict Refusal → List ℕ → Type 0

@@ -1,5 +1,5 @@
 -- The texts of the answers about pairs.
-use Rattle.std.specs.Prelude.{◌≡◌, ℕ, List, [], ◌∷◌, ◌++◌, map, take, drop, Ok, Err}
+use Rattle.std.specs.Prelude.{◌≡◌, ℕ, List, [], ◌∷◌, ◌++◌, map, take, drop, Ok, Err, Result}
 use Rattle.std.specs.List.{flat_map}
 use Rattle.locks.specs.Graphs.{Graph}
 use Rattle.pairs.specs.declared.answers.Verdict.TheVariants.{Never, Reached}
@@ -7,10 +7,11 @@ use Rattle.runs.specs.declared.calls.Answer.{Answer}
 use Rattle.runs.specs.Calls.{AnswerMeaning, exchanged, summarised, entry_is, asked, replayed, answer_meaning}
 use Rattle.search.specs.declared.threads.Pair.{Pair}
 use Rattle.review.specs.declared.lines.line.Line.{Line}
+use Rattle.review.specs.declared.report.error.ReportError.{ReportError}
+use Rattle.review.specs.declared.report.error.ReportError.TheVariants.{Summary}
 use Rattle.review.specs.Asking.{ByAnswers}
 use Rattle.review.specs.Lines.{newline, reached_text, never_text, missing_text, line_text}
 use Rattle.review.specs.Picking.{Picks}
-use Rattle.review.specs.Reports.{RefusalPrinted}
 
 -- the text of an answer about a pair
 abbrev pub told : Pair → AnswerMeaning → List ℕ
@@ -40,7 +41,7 @@ LinesTell (p ∷ ps) (z ∷ zs) (l ∷ ls) = (line_text l ≡ told p z) × Lines
 abbrev pub AllTell : {A B : Type 0} → List Pair → List (Answer A B) → List Line → Type 0
 AllTell {A} {B} pairs answers lines = (f : A → Graph) (g : B → Graph) → LinesTell pairs (map (answer_meaning f g) answers) lines
 
--- what is printed of the answers about these pairs: the refusal of a summary, or the lines at the places
-abbrev pub Told : {A B : Type 0} → List Pair → List ℕ → List (Answer A B) → List ℕ → Type 0
-Told pairs places answers text =
-    ByAnswers answers (RefusalPrinted text) ((lines : List Line) × (picked : List Line) × AllTell pairs (drop 2 answers) lines × Picks lines places picked × (text ≡ lines_text picked))
+-- what becomes of the answers about these pairs: the fault of a summary, or the lines at the places
+abbrev pub Told : {A B : Type 0} → List Pair → List ℕ → List (Answer A B) → Result (List ℕ) ReportError → Type 0
+Told pairs places answers r =
+    ByAnswers answers (λ s f. r ≡ Err (Summary s f)) ((lines : List Line) × (picked : List Line) × AllTell pairs (drop 2 answers) lines × Picks lines places picked × (r ≡ Ok (lines_text picked)))

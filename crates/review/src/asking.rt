@@ -1,13 +1,13 @@
-// Which calls a review makes, and which refusals of summaries their answers tell.
+// Which calls a review makes, and which faults of summaries their answers tell.
 ghost use Rattle.std.specs.Prelude.{◌≡◌, ◌+◌, ◌<◌, ◌≤◌, [], ◌∷◌, ◌++◌, length, replicate, vec_items, IfOk};
 ghost use Rattle.runs.specs.declared.calls.Call.TheVariants as code;
 ghost use Rattle.runs.specs.declared.calls.WhichFolder.TheVariants as which;
 ghost use Rattle.runs.specs.Scripts.{written};
-ghost use Rattle.review.specs.Asking.{question_of, more_calls, ScriptSays, Refuses};
+ghost use Rattle.review.specs.Asking.{question_of, more_calls, ScriptSays, SummaryTold};
 
-use locks::refusals::Refusal;
 use runs::calls::{Answer, Call, Question, Site, WhichFolder};
 use runs::scripts::Script;
+use search::faults::SummariseFault;
 use search::threads::Pair;
 use std::alloc::{AllocError, Global};
 
@@ -69,12 +69,12 @@ fn question(pair: Pair) -> Question
     }
 }
 
-// The refusal of the summary that this answer is of.
-pub(crate) fn refusal<A, B>(answers: &[Answer<A, B>], place: usize) -> Option<Refusal>
-    ensures { Refuses answers.now place result }
+// That the summary which this answer is of was accepted, or its fault.
+pub(crate) fn summary<A, B>(answers: &[Answer<A, B>], place: usize) -> Result<(), SummariseFault>
+    ensures { SummaryTold answers.now place result }
 {
     match answers.get(place) {
-        Some(Answer::Summarised(Err(fault))) => Some(fault.refusal()),
-        _ => None,
+        Some(Answer::Summarised(Err(fault))) => Err(*fault),
+        _ => Ok(()),
     }
 }

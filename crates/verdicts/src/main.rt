@@ -1,22 +1,9 @@
 // Reads a review file from standard input, and prints its report.
 #![tactic(auto)]
 
-mod input;
+use review::report::print_report;
+use std::io;
 
-use input::read_file;
-use review::report::report;
-use std::io::Write;
-
-fn main(rt: HostRuntime) -> anyhow::Result<()> {
-    run(&rt)
-}
-
-fn run(rt: &HostRuntime) -> anyhow::Result<()> {
-    let heap = rt.alloc();
-    let file = read_file(heap, rt.stdin())?;
-    let text = report(heap, &file)?;
-    let mut out = rt.stdout();
-    out.write_all(&text)?;
-    out.flush()?;
-    Ok(())
+fn main(rt: HostRuntime) -> io::Result<()> {
+    print_report(rt.alloc(), rt.stdin(), &mut rt.stdout())
 }

@@ -3,9 +3,8 @@
 
 use readers::listing::Listing;
 use review::lines::Line;
-use review::report::report;
+use review::report::print_report;
 use search::threads::Pair;
-use std::io::Write;
 
 // Two threads, and three pairs.
 const FILE: [u8; 36] = [
@@ -75,8 +74,7 @@ fn read(rt: &HostRuntime, name: &str, bytes: &[u8]) -> anyhow::Result<()> {
 // The report of a file, behind a line with its name.
 fn tell(rt: &HostRuntime, name: &str, file: &[u8]) -> anyhow::Result<()> {
     println!(rt; "{name}:")?;
-    let text = report(rt.alloc(), file)?;
-    rt.stdout().write_all(&text)?;
+    print_report(rt.alloc(), file, &mut rt.stdout())?;
     Ok(())
 }
 

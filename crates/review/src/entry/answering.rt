@@ -3,7 +3,7 @@ ghost use Rattle.readers.specs.Graph.{listing_graph};
 ghost use Rattle.readers.specs.Place.{commands_in};
 ghost use Rattle.review.specs.SinglePair.{Ran, ListingsSay, GraphsSay};
 
-use crate::asking::{add_ask, add_summaries, refusal};
+use crate::asking::{add_ask, add_summaries, summary};
 use crate::entry::VerdictRoom;
 use crate::entry::moves::write_moves;
 use locks::refusals::Refusal;
@@ -52,12 +52,8 @@ fn judge(room: VerdictRoom, pair: Pair, moves: &mut [u8]) -> Result<Verdict, Ref
 fn tell(answers: &[Answer<Listing, Listing>], moves: &mut [u8]) -> Result<Verdict, Refusal>
     ensures { Ran answers.now moves.old result moves.new }
 {
-    if let Some(refusal) = refusal(answers, 0) {
-        return Err(refusal);
-    }
-    if let Some(refusal) = refusal(answers, 1) {
-        return Err(refusal);
-    }
+    summary(answers, 0)?;
+    summary(answers, 1)?;
     match answers.get(2) {
         Some(Answer::Asked(Ok(Verdict::Reached(count)), list)) => {
             let written = list.len().min(*count).min(moves.len() / 2);

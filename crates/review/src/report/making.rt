@@ -1,39 +1,36 @@
 // A whole file's report: what is read, asked and told.
-ghost use Rattle.std.specs.Prelude.{◌≡◌, ◌+◌, ◌<◌, length, IfOk};
+ghost use Rattle.std.specs.Prelude.{◌≡◌, ◌+◌, ◌<◌, length, vec_items};
 ghost use Rattle.std.specs.List.{All};
-ghost use Rattle.review.specs.Lines.{line_text};
-ghost use Rattle.review.specs.Reports.{left_graph, right_graph, refusal_line, ReviewSays, Reports};
+ghost use Rattle.review.specs.Reports.{left_graph, right_graph, as_text, OutOfMemoryOr, ReviewAnswers, Reported};
 ghost use Rattle.review.specs.Reviews.{review_of};
 ghost use Rattle.review.specs.Telling.{Told};
 
-use crate::asking::{refusal, script};
-use crate::file::{Review, Within};
-use crate::lines::Line;
+use crate::asking::{script, summary};
+use crate::file::Review;
+use crate::report::ReportError;
 use crate::report::asks::Asks;
 use crate::report::printing::print;
 use crate::report::telling::{Right, lines, picked};
 use graph::ThreadGraph;
-use locks::refusals::Refusal;
+use locks::together::Side;
 use pairs::asking::most_moves;
 use readers::listing::Listing;
 use runs::calls::Answer;
 use runs::running::run;
 use search::folders::Room;
-use std::alloc::{AllocError, Global};
+use std::alloc::Global;
 
-// What is printed of a file: a line for each pair, or the one refusal.
-pub fn report(heap: Global, file: &[u8]) -> Result<Vec<u8>, AllocError>
-    ensures { IfOk result (λ text. Reports file.now text.items) }
+// A line for each pair, or the fault of the file or else of a summary, the left one first.
+pub fn report(heap: Global, file: &[u8]) -> Result<Vec<u8>, ReportError>
+    ensures { Reported file.now (as_text vec_items result) }
 {
     let mut review = Review::blank(heap)?;
-    match review.read(file) {
-        Ok(()) => judge(heap, review),
-        Err(fault) => print(heap, &[refused(fault.refusal(), fault.within())]),
-    }
+    review.read(file)?;
+    judge(heap, review)
 }
 
-fn judge(heap: Global, review: Review) -> Result<Vec<u8>, AllocError>
-    ensures { IfOk result (λ text. ReviewSays (left_graph (review_of review)) (right_graph (review_of review)) (review_of review).pairs text.items) }
+fn judge(heap: Global, review: Review) -> Result<Vec<u8>, ReportError>
+    ensures { let r = as_text vec_items result in OutOfMemoryOr r (ReviewAnswers (left_graph (review_of review)) (right_graph (review_of review)) (review_of review).pairs r) }
 {
     let (left, right, pairs) = review.into_parts();
     let asks = Asks::of(heap, &pairs, left.locations(), right.locations())?;
@@ -42,32 +39,29 @@ fn judge(heap: Global, review: Review) -> Result<Vec<u8>, AllocError>
     tell(heap, &asks, &ran.answers)
 }
 
-// The refusal of a summary, the left one first, or what became of each pair.
+// The fault of a summary, the left one first, or what became of each pair.
 fn tell(
     heap: Global,
     asks: &Asks,
     answers: &[Answer<Listing, Right>],
-) -> Result<Vec<u8>, AllocError>
+) -> Result<Vec<u8>, ReportError>
     requires as_many { length answers.now ≡ length asks.now.pairs.items + 2 }
     requires within { All (λ n. n < length asks.now.pairs.items) asks.now.places.items }
-    ensures { IfOk result (λ text. Told asks.now.pairs.items asks.now.places.items answers.now text.items) }
+    ensures { let r = as_text vec_items result in OutOfMemoryOr r (Told asks.now.pairs.items asks.now.places.items answers.now r) }
 {
-    if let Some(refusal) = refusal(answers, 0) {
-        return print(heap, &[refused(refusal, Within::Left)]);
+    if let Err(fault) = summary(answers, 0) {
+        return Err(ReportError::Summary {
+            side: Side::Left,
+            fault,
+        });
     }
-    if let Some(refusal) = refusal(answers, 1) {
-        return print(heap, &[refused(refusal, Within::Right)]);
+    if let Err(fault) = summary(answers, 1) {
+        return Err(ReportError::Summary {
+            side: Side::Right,
+            fault,
+        });
     }
     let lines = lines(heap, &asks.pairs, &answers[2..])?;
-    print(heap, &picked(heap, &lines, &asks.places)?)
-}
-
-fn refused(refusal: Refusal, within: Within) -> Line<'static>
-    ensures { line_text result ≡ refusal_line refusal within }
-{
-    Line::Refused {
-        number: refusal.number,
-        place: refusal.place,
-        within,
-    }
+    let text = print(heap, &picked(heap, &lines, &asks.places)?)?;
+    Ok(text)
 }

@@ -3,8 +3,8 @@ use Rattle.std.proofs.lemmas.List.{length-replicate}
 use Rattle.review.specs.Asking.{review_calls}
 use Rattle.review.specs.Telling.{Told}
 use Rattle.review.specs.Picking.{Picks}
-use Rattle.review.specs.Reports.{left_graph, right_graph, ReviewSays}
-use Rattle.review.proofs.Judging.{as_many, told_says, if_ok}
+use Rattle.review.specs.Reports.{left_graph, right_graph, as_text, ReviewAnswers}
+use Rattle.review.proofs.Judging.{as_many, told_answers, memory_or}
 use Rattle.review.proofs.Picking.{places_within}
 use Rattle.review.proofs.report.making.judge.Goals as goal
 
@@ -28,7 +28,8 @@ returns c =
     let script = c.in_ok-script.ensures _ _ ∙ ap (λ ps. review_calls ps lent) c.deref-2.ensures.value in
     let long = length-replicate {A = ℕ} c.most_moves.result 0 ∙ c.most_moves.ensures.value in
     let picks = subst (Picks asked places) c.deref.ensures.value c.in_ok-asks.ensures in
-    if_ok c.tell.result c.tell.ensures (λ text told.
-    subst (λ m. ReviewSays (left_graph m) (right_graph m) m.pairs (vec_items text)) c.into_parts-left.ensures
-    (told_says _ _ _ _ _ c.run-ran.result c.run-ran.ensures.right asked lent long script pairs places picks (vec_items text)
-    (subst (λ zs. Told asked places zs (vec_items text)) c.deref-3.ensures.value told)))
+    let r = as_text vec_items c.tell.result in
+    memory_or r c.tell.ensures (λ told.
+    subst (λ m. ReviewAnswers (left_graph m) (right_graph m) m.pairs r) c.into_parts-left.ensures
+    (told_answers _ _ _ _ _ c.run-ran.result c.run-ran.ensures.right asked lent long script pairs places picks r
+    (subst (λ zs. Told asked places zs r) c.deref-3.ensures.value told)))

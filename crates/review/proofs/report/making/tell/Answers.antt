@@ -1,8 +1,8 @@
-use Rattle.std.proofs.Common.{◌<◌, drop, length, inr, vec_items, ap, subst, sym, ◌∙◌}
+use Rattle.std.proofs.Common.{◌<◌, drop, length, inr, vec_items, Ok, ap, subst, sym, ◌∙◌}
 use Rattle.std.specs.List.{All}
 use Rattle.review.specs.Telling.{AllTell, lines_text}
 use Rattle.review.specs.Picking.{Picks}
-use Rattle.review.proofs.Judging.{if_ok, part_behind}
+use Rattle.review.proofs.Judging.{part_behind}
 use Rattle.review.proofs.report.making.tell.Goals as goal
 
 pub picked-requires : goal.picked-requires
@@ -16,4 +16,4 @@ returns c =
     let picked = vec_items c.in_ok-picked.field-0 in
     let told = subst (λ ps. AllTell ps (drop 2 c.args.answers.now) lines) c.deref.ensures.value (subst (λ zs. AllTell c.deref.result.now zs lines) (part_behind c.args.answers.now) c.in_ok-lines.ensures.tell) in
     let picks = subst (λ ls. Picks ls c.args.asks.now.places.items picked) c.deref-2.ensures.value (subst (λ ns. Picks c.deref-2.result.now ns picked) c.deref-3.ensures.value c.in_ok-picked.ensures) in
-    if_ok c.print-2.result c.print-2.ensures (λ text is. inr (inr (c.in_default.ensures, c.in_default-refusal.ensures, (lines, picked, told, picks, is ∙ ap lines_text c.deref-4.ensures.value))))
+    inr (inr (inr (c.in_default.ensures, c.in_default-summary.ensures, (lines, picked, told, picks, ap (λ x. Ok x) (c.in_ok-text.ensures ∙ ap lines_text c.deref-4.ensures.value)))))
