@@ -42,7 +42,7 @@ wrong_words TooManyCommands = with_number (codes "a listing has at most ") most 
 wrong_words (UnknownCommand b) = with_number (codes "byte ") b (codes " begins no command")
 wrong_words (CutOff b) = with_number (codes "the listing ends within the command that byte ") b (codes " begins")
 wrong_words (UnknownLock c) = (command_words c ++ codes ", and locks go from 0 to ") ++ decimal (lock_limit - 1)
-wrong_words (MissingTarget c) = command_words c ++ codes ", where not all is in the listing"
+wrong_words (MissingTarget c) = command_words c ++ codes ", and the listing lacks such a command"
 wrong_words (RunsOffTheEnd c) = (codes "the last command is " ++ command_name c) ++ codes ", which leads on to another"
 
 -- the number at this place

@@ -2,9 +2,11 @@
 #![tactic(auto)]
 
 use readers::listing::Listing;
+use review::file::Review;
 use review::lines::Line;
 use review::report::print_report;
 use search::threads::Pair;
+use std::str;
 
 // Two threads, and three pairs.
 const FILE: [u8; 36] = [
@@ -59,7 +61,31 @@ fn run(rt: &HostRuntime) -> anyhow::Result<()> {
     tell(rt, "32768 bytes", &[0x00; 32768])?;
     tell(rt, "32769 bytes", &[0x00; 32769])?;
     write(rt, "line of 10 bytes", &mut [0; 10])?;
-    write(rt, "line of 9 bytes", &mut [0; 9])
+    write(rt, "line of 9 bytes", &mut [0; 9])?;
+    explain_all(rt)
+}
+
+// Each way in which a file can be wrong, in words.
+fn explain_all(rt: &HostRuntime) -> anyhow::Result<()> {
+    let mut many = [0; 516];
+    many[..3].copy_from_slice(&[0x10, 2, 1]);
+    explain(rt, "no bytes", &[0x10, 0, 0])?;
+    explain(rt, "513 stops", &many)?;
+    explain(rt, "another byte", &[0x10, 0, 2, 0x00, 0x06])?;
+    explain(rt, "take cut off", &[0x10, 0, 2, 0x00, 0x02])?;
+    explain(rt, "take 8", &[0x10, 0, 3, 0x02, 8, 0x00])?;
+    explain(
+        rt,
+        "give 255",
+        &[0x10, 0, 1, 0x00, 0x11, 0, 4, 0x01, 0x03, 255, 0x00],
+    )?;
+    explain(rt, "goto 1", &[0x10, 0, 3, 0x04, 0, 1])?;
+    explain(rt, "either 0 511", &[0x10, 0, 5, 0x05, 0, 0, 1, 255])?;
+    explain(rt, "pass", &[0x10, 0, 1, 0x01])?;
+    explain(rt, "name twice", &NAME_TWICE)?;
+    explain(rt, "section cut short", &[0x10, 0, 7, 0x02])?;
+    explain(rt, "byte behind end", &BYTE_BEHIND_END)?;
+    explain(rt, "32769 bytes", &[0x00; 32769])
 }
 
 fn read(rt: &HostRuntime, name: &str, bytes: &[u8]) -> anyhow::Result<()> {
@@ -86,5 +112,22 @@ fn write(rt: &HostRuntime, name: &str, space: &mut [u8]) -> anyhow::Result<()> {
         Ok(count) => println!(rt; "{name}: {count}")?,
         Err(fault) => println!(rt; "{name}: {}", fault.refusal())?,
     }
+    Ok(())
+}
+
+// What is wrong with a file, and where in the file.
+fn explain(rt: &HostRuntime, name: &str, file: &[u8]) -> anyhow::Result<()> {
+    let mut review = Review::blank(rt.alloc())?;
+    let Err(fault) = review.read(file) else {
+        println!(rt; "{name}: nothing is wrong")?;
+        return Ok(());
+    };
+    let mut space = [0; 80];
+    let words = match fault.write_words(&mut space) {
+        Ok(count) => str::from_utf8(&space[..count])?,
+        Err(_) => "words that do not fit",
+    };
+    let side = fault.within().name();
+    println!(rt; "{name}: at {} in {side}: {words}", fault.file_offset())?;
     Ok(())
 }

@@ -85,7 +85,7 @@ fn put_wrong(space: &mut [u8], wrong: Wrong) -> usize
         }
         Wrong::MissingTarget(command) => {
             let end = put_command(space, command);
-            put(space, end, b", where not all is in the listing")
+            put(space, end, b", and the listing lacks such a command")
         }
         Wrong::RunsOffTheEnd(command) => {
             let end = put(space, 0, b"the last command is ");
