@@ -1,0 +1,4 @@
+pub mod Lines
+pub mod Threads
+pub mod Tracing
+pub mod Verdicts
