@@ -20,10 +20,17 @@ pub adds_after : (Says Next : List (List ℕ) → Type 0) (before text after lin
 adds_after Says Next before text after line e a next =
     (line ∷ a.0, a.1 ∙ ap (λ t. t ++ text_of a.0) e ∙ append_assoc before (ended line) (text_of a.0), next a.0 a.2)
 
--- some lines, and others after them
-pub adds_both : (P Q Next : List (List ℕ) → Type 0) (before text after : List ℕ) → Adds P before text → Adds Q text after
-    → ((xs ys : List (List ℕ)) → P xs → Q ys → Next (xs ++ ys)) → Adds Next before after
-adds_both P Q Next before text after a b next =
-    (a.0 ++ b.0,
-    b.1 ∙ ap (λ t. t ++ text_of b.0) a.1 ∙ append_assoc before (text_of a.0) (text_of b.0) ∙ ap (λ t. before ++ t) (sym (flat_map-append ended a.0 b.0)),
-    next a.0 b.0 a.2 b.2)
+-- a line alone
+pub adds_one : (Next : List (List ℕ) → Type 0) (before after line : List ℕ) → after ≡ before ++ ended line → Next (line ∷ []) → Adds Next before after
+adds_one Next before after line e h = (line ∷ [], e ∙ ap (λ t. before ++ t) (sym (append-nil (ended line))), h)
+
+-- some lines, and two after them
+pub adds_two : (Says Next : List (List ℕ) → Type 0) (before text middle after x y : List ℕ) → Adds Says before text → middle ≡ text ++ ended x → after ≡ middle ++ ended y
+    → ((lines : List (List ℕ)) → Says lines → Next (lines ++ x ∷ y ∷ [])) → Adds Next before after
+adds_two Says Next before text middle after x y a d e next =
+    let last : after ≡ text ++ text_of (x ∷ y ∷ []) =
+    e ∙ ap (λ t. t ++ ended y) d ∙ append_assoc text (ended x) (ended y) ∙ ap (λ t. text ++ (ended x ++ t)) (sym (append-nil (ended y))) in
+    (a.0 ++ x ∷ y ∷ [],
+    last ∙ ap (λ t. t ++ text_of (x ∷ y ∷ [])) a.1 ∙ append_assoc before (text_of a.0) (text_of (x ∷ y ∷ []))
+    ∙ ap (λ t. before ++ t) (sym (flat_map-append ended a.0 (x ∷ y ∷ []))),
+    next a.0 a.2)

@@ -47,7 +47,7 @@ abbrev pub states_text : Result ℕ SummariseFault → List ℕ
 states_text (Ok n) = codes "locked states " ++ decimal n
 states_text (Err f) = refusal_text (summarise_refusal f)
 
--- and how many locations it has
+-- how many locations a thread has, and what became of its summary
 abbrev pub thread_line : Side → ℕ → Result ℕ SummariseFault → List ℕ
 thread_line s n r = side_name s ++ (codes ": locations " ++ (decimal n ++ (codes ", " ++ states_text r)))
 

@@ -1,6 +1,10 @@
-// The transcript of a text: what is said of two threads, of a schedule and of a pair, line by line.
+// The transcript of a text: what is said of two threads, of a schedule and of a pair of locations, line by line.
 #![tactic(auto)]
 
 mod ending;
+mod printing;
+mod threads;
 mod trace;
 mod verdict;
+
+pub use printing::{print_transcript, transcript};
