@@ -29,8 +29,9 @@ pub adds_two : (Says Next : List (List ℕ) → Type 0) (before text middle afte
     → ((lines : List (List ℕ)) → Says lines → Next (lines ++ x ∷ y ∷ [])) → Adds Next before after
 adds_two Says Next before text middle after x y a d e next =
     let last : after ≡ text ++ text_of (x ∷ y ∷ []) =
-    e ∙ ap (λ t. t ++ ended y) d ∙ append_assoc text (ended x) (ended y) ∙ ap (λ t. text ++ (ended x ++ t)) (sym (append-nil (ended y))) in
-    (a.0 ++ x ∷ y ∷ [],
-    last ∙ ap (λ t. t ++ text_of (x ∷ y ∷ [])) a.1 ∙ append_assoc before (text_of a.0) (text_of (x ∷ y ∷ []))
-    ∙ ap (λ t. before ++ t) (sym (flat_map-append ended a.0 (x ∷ y ∷ []))),
-    next a.0 a.2)
+    e ∙ ap (λ t. t ++ ended y) d ∙ append_assoc text (ended x) (ended y) ∙ ap (λ t. text ++ (ended x ++ t)) (sym (append-nil (ended y))) in (
+      a.0 ++ x ∷ y ∷ [],
+      last ∙ ap (λ t. t ++ text_of (x ∷ y ∷ [])) a.1 ∙ append_assoc before (text_of a.0) (text_of (x ∷ y ∷ []))
+          ∙ ap (λ t. before ++ t) (sym (flat_map-append ended a.0 (x ∷ y ∷ []))),
+      next a.0 a.2,
+    )

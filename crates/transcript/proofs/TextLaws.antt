@@ -2,10 +2,8 @@
 use Rattle.std.proofs.Common.{◌≡◌, ℕ, List, [], ◌++◌, Some, None, Ok, Err, Option, Result, IfSome, refl, sym, ap, ◌∙◌, subst}
 use Rattle.std.specs.Io.KnownBytes.{Appends}
 use Rattle.task.specs.declared.fault.TextFault.{TextFault}
-use Rattle.task.specs.Accepted.{TextSays}
 use Rattle.task.specs.Contents.{kept}
 use Rattle.task.specs.Faults.{fault_text}
-use Rattle.task.specs.Reasons.{Refused}
 use Rattle.task.specs.Spelled.{TaskValue, spelled, told}
 use Rattle.task.proofs.Judged.{accepted, reasons}
 use Rattle.transcript.specs.Lines.{ended, Adds}

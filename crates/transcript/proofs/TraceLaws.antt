@@ -33,13 +33,19 @@ pushed (z ∷ xs) x y (suc i) e = ⊎_elim inl (λ p. inr (ap suc p.0, p.1)) (pu
 pub one_line_more : (G H : Graph) (moves : List ℕ) (i : ℕ) (lines : List (List ℕ)) (m : Move) (c : Configuration) → i < length moves → move_named (get_or moves i 0) ≡ Some m
     → Runs G H (from_starts G H) (take (i + 1) moves) c → FirstLines G H moves i lines → FirstLines G H moves (i + 1) (lines ++ move_line m c ∷ [])
 one_line_more G H moves i lines m c h named r f =
-    let here : (j : ℕ) → j ≡ i → LineOfMove G H moves j (move_line m c) = λ j at.
-    (get_or moves i 0, m, c, ap (slice_get moves) at ∙ slice_get-get_or moves i 0 h, named,
-    (let P : ℕ → Type 0 = λ k. Runs G H (from_starts G H) (take (k + 1) moves) c in subst P (sym at) r), refl) in
+    let here : (j : ℕ) → j ≡ i → LineOfMove G H moves j (move_line m c) = λ j at. (
+      get_or moves i 0,
+      m,
+      c,
+      ap (slice_get moves) at ∙ slice_get-get_or moves i 0 h,
+      named,
+      (let P : ℕ → Type 0 = λ k. Runs G H (from_starts G H) (take (k + 1) moves) c in subst P (sym at) r),
+      refl,
+    ) in
     record {
       as_many = length_push lines (move_line m c) ∙ ap (λ n. n + 1) f.as_many;
       each = λ j line e.
-      ⊎_elim (f.each j line) (λ p. subst (LineOfMove G H moves j) p.1 (here j (p.0 ∙ f.as_many))) (pushed lines (move_line m c) line j e);
+          ⊎_elim (f.each j line) (λ p. subst (LineOfMove G H moves j) p.1 (here j (p.0 ∙ f.as_many))) (pushed lines (move_line m c) line j e);
     }
 
 -- the trace ends before a move that cannot be made

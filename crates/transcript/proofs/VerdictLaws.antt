@@ -1,12 +1,12 @@
 -- What an ask says of a pair, where both threads were summarised.
-use Rattle.std.proofs.Common.{◌≡◌, ◌≢◌, ℕ, ◌<◌, ◌≤◌, List, [], length, take, Ok, Err, Result, refl, sym, ap, ◌∙◌, subst, arith}
+use Rattle.std.proofs.Common.{◌≡◌, ℕ, ◌<◌, List, [], length, take, Ok, Err, refl, sym, ap, subst, arith}
 use Rattle.std.proofs.lemmas.List.{length-take-le}
 use Rattle.std.proofs.lemmas.Option.{slice_get_within}
 use Rattle.locks.specs.declared.together.Side.TheVariants.{Left, Right}
 use Rattle.locks.specs.Graphs.{Graph}
 use Rattle.locks.specs.Shortest.{LeastLength}
 use Rattle.locks.specs.States.{beginning}
-use Rattle.pairs.specs.Answers.{Answer, longest}
+use Rattle.pairs.specs.Answers.{Answer}
 use Rattle.pairs.specs.Asking.{OfGraph, Asked, NeverTooShort}
 use Rattle.pairs.specs.declared.answers.AskFault.TheVariants.{NoSummary, NoLocation, TooShort}
 use Rattle.pairs.specs.declared.answers.Verdict.TheVariants.{Never, Reached}

@@ -3,6 +3,8 @@
 
 mod ending;
 mod printing;
+#[cfg(test)]
+mod tests;
 mod threads;
 mod trace;
 mod verdict;

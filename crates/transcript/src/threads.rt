@@ -22,11 +22,7 @@ use std::alloc::{AllocError, Global};
 use task::Task;
 
 // After a refused listing nothing more is written.
-pub(crate) fn write_task(
-    heap: Global,
-    written: &mut String,
-    task: &Task,
-) -> Result<(), AllocError>
+pub(crate) fn write_task(heap: Global, written: &mut String, task: &Task) -> Result<(), AllocError>
     ensures { OnOk result (Adds (TaskSays (task_of task.now)) (string_bytes written.old) (string_bytes written.new)) }
 {
     let mut left = Listing::new(heap)?;
@@ -104,11 +100,7 @@ fn write_states(
     }
 }
 
-fn write_refused(
-    written: &mut String,
-    side: Side,
-    fault: ListingFault,
-) -> Result<(), AllocError>
+fn write_refused(written: &mut String, side: Side, fault: ListingFault) -> Result<(), AllocError>
     ensures { OnOk result (string_bytes written.new ≡ string_bytes written.old ++ ended (listing_line side fault)) }
 {
     writeln!(written, "{}: {}", name_of(side), fault.refusal())

@@ -52,11 +52,7 @@ fn write_start(written: &mut String, start: Configuration) -> Result<(), AllocEr
     writeln!(written, "start: {start}")
 }
 
-fn write_move(
-    written: &mut String,
-    chosen: Move,
-    reached: Configuration,
-) -> Result<(), AllocError>
+fn write_move(written: &mut String, chosen: Move, reached: Configuration) -> Result<(), AllocError>
     ensures { OnOk result (string_bytes written.new ≡ string_bytes written.old ++ ended (move_line chosen reached)) }
 {
     writeln!(written, "{chosen}: {reached}")

@@ -1,4 +1,3 @@
-use Rattle.std.proofs.Common.{◌++◌, IfSome, ap, ◌∙◌}
 use Rattle.std.proofs.lemmas.Result.{on_ok_weaker}
 use Rattle.transcript.proofs.TextLaws.{printed}
 use Rattle.transcript.proofs.printing.print_transcript.Goals as goal

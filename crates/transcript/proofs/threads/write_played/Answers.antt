@@ -1,8 +1,7 @@
-use Rattle.std.proofs.Common.{◌≡◌, length, refl}
+use Rattle.std.proofs.Common.{length, refl}
 use Rattle.std.proofs.lemmas.Result.{on_ok_weaker}
 use Rattle.search.specs.declared.threads.Pair.{Pair}
 use Rattle.task.specs.Places.{task_of}
-use Rattle.transcript.specs.Transcripts.{pair_of}
 use Rattle.transcript.proofs.TaskLaws.{OfTask, played}
 use Rattle.transcript.proofs.threads.write_played.Goals as goal
 

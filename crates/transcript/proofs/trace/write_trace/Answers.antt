@@ -1,11 +1,10 @@
-use Rattle.std.proofs.Common.{ap, ◌∙◌, ◌≡◌, ◌++◌, get_or, Some, string_bytes, refl}
-use Rattle.locks.specs.Moves.{move_named}
+use Rattle.std.proofs.Common.{ap, ◌∙◌, ◌++◌, string_bytes, refl}
 use Rattle.locks.specs.Schedules.{from_starts}
 use Rattle.search.proofs.ReplayLaws.{run_goes_on}
-use Rattle.transcript.specs.Lines.{Adds, ended, start_line, move_line}
-use Rattle.transcript.specs.Tracing.{MovesTraced, Traced}
+use Rattle.transcript.specs.Lines.{ended, start_line, move_line}
+use Rattle.transcript.specs.Tracing.{Traced}
 use Rattle.transcript.proofs.LineLaws.{adds_more, adds_after}
-use Rattle.transcript.proofs.TraceLaws.{FirstLines, one_line_more, traced_whole, traced_up_to}
+use Rattle.transcript.proofs.TraceLaws.{one_line_more, traced_whole, traced_up_to}
 use Rattle.transcript.proofs.trace.write_trace.Goals as goal
 
 pub loop-number-preserved : goal.loop-number-preserved
