@@ -1,5 +1,6 @@
 // Texts and what is written for each, worked out by hand: a way in which a transcript can end in each.
 use crate::{print_transcript, transcript};
+use std::alloc::{AllocError, Global};
 use std::io;
 use std::io::{ErrorKind, Read, Write};
 use std::test::Fail;
@@ -228,13 +229,48 @@ fn each_schedule_has_its_transcript(rt: HostRuntime) -> Result<(), Fail> {
 
 #[test]
 fn an_item_too_many_is_a_fault(rt: HostRuntime) -> Result<(), Fail> {
-    let mut text = String::from_str(rt.alloc(), "left")?;
-    for _ in 0..4097 {
-        text.push_str(" 00")?;
-    }
-    let written = transcript(rt.alloc(), text.as_bytes())?;
+    let heap = rt.alloc();
+    let items = repeated(heap, " 00", 4097)?;
+    let text = format!(in heap; "left{items}\n")?;
+    let written = transcript(heap, text.as_bytes())?;
     assert_eq!(rt; written.as_str(), "line 1: more than 4096 items\n");
     Ok(())
+}
+
+#[test]
+fn the_most_moves_are_traced(rt: HostRuntime) -> Result<(), Fail> {
+    let heap = rt.alloc();
+    let moves = repeated(heap, " L0", 4096)?;
+    let text = format!(in heap; "left 04 00 00\nright 00\npair 0 0\nmoves{moves}\n")?;
+    let stays = "left at 0 holding nothing, right at 0 holding nothing\n";
+    let trace = repeated(heap, format!(in heap; "L0: {stays}")?.as_str(), 4096)?;
+    let line = "locations 1, locked states 1\n";
+    let wanted = format!(in heap;
+        "left: {line}right: {line}start: {stays}{trace}replays to 0 0, moves 4096\n0 0 reached 0:\n"
+    )?;
+    let written = transcript(heap, text.as_bytes())?;
+    assert!(rt; written.as_bytes() == wanted.as_bytes());
+    Ok(())
+}
+
+#[test]
+fn a_long_schedule_is_written_to_its_end(rt: HostRuntime) -> Result<(), Fail> {
+    let heap = rt.alloc();
+    let passes = repeated(heap, " 01", 511)?;
+    let text = format!(in heap; "left{passes} 00\nright 00\npair 511 0\nmoves\n")?;
+    let moves = repeated(heap, " L0", 511)?;
+    let wanted = format!(in heap; "refused 21 at 0 in replay\n511 0 reached 511:{moves}\n")?;
+    let written = transcript(heap, text.as_bytes())?;
+    assert!(rt; written.as_str().ends_with(wanted.as_str()));
+    Ok(())
+}
+
+fn repeated(heap: Global, piece: &str, times: usize) -> Result<String, AllocError> {
+    let mut text = String::new(heap);
+    for _ in 0..times {
+        text.push_str(piece)?;
+    }
+    Ok(text)
 }
 
 #[test]
