@@ -96,7 +96,7 @@ bytes_written (suc s) n at (b ∷ bs) a h = bytes_written s n (suc at) bs a.1 h
 ends_well : (at : ℕ) (c : Command) → end_at at c ≡ Ok tt → not (goes_on c) ≡ true
 ends_well at c = go (goes_on c)
   where
-    go : (b : Bool) → ◌≡◌ {A = Result (Unit {0}) ListingFault} (cond b (Err (fault RunsOffTheEnd at)) (Ok tt)) (Ok tt) → not b ≡ true
+    go : (b : Bool) → ◌≡◌ {A = Result (Unit {0}) ListingFault} (cond b (Err (fault (RunsOffTheEnd c) at)) (Ok tt)) (Ok tt) → not b ≡ true
     go true h = not_refused _ h
     go false h = refl
 

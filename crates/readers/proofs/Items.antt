@@ -55,7 +55,7 @@ run_items (p ∷ ps) = of_item p.1 (λ c. c ∷ run_items ps) (λ _. [])
 
 abbrev pub flow_items : ℕ → Result (Unit {0}) ListingFault → List Item → Result (Unit {0}) ListingFault
 flow_items n end [] = end
-flow_items n end (p ∷ ps) = of_item p.1 (λ c. cond (inside n c) (flow_items n (end_at p.0 c) ps) (Err (fault MissingTarget p.0))) (λ _. end)
+flow_items n end (p ∷ ps) = of_item p.1 (λ c. cond (inside n c) (flow_items n (end_at p.0 c) ps) (Err (fault (MissingTarget c) p.0))) (λ _. end)
 
 unless_full : (full : Bool) (f : ListingFault) (r : Result (Unit {0}) ListingFault) (n : ℕ) (answer : Result ℕ ListingFault) → given r n ≡ answer → given (cond full (Err f) r) n ≡ cond full (Err f) answer
 unless_full true f r n answer h = refl
@@ -95,7 +95,7 @@ flow_is n end zero at (b ∷ bs) =
         let wide = width_some c in
         let there : at + width c ≡ suc at + pred (width c) = omega arith in
         ap (λ a. flow n end a (c ∷ run (pred (width c)) bs)) here
-        ∙ ap (λ r. cond (inside n c) r (Err (fault MissingTarget at))) (ap (λ a. flow n (end_at at c) a (run (pred (width c)) bs)) there ∙ more c)
+        ∙ ap (λ r. cond (inside n c) r (Err (fault (MissingTarget c) at))) (ap (λ a. flow n (end_at at c) a (run (pred (width c)) bs)) there ∙ more c)
     go (Err w) more = refl
 flow_is n end (suc s) at (b ∷ bs) =
     let there : at + suc s ≡ suc at + s = omega arith in

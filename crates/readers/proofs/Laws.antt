@@ -59,7 +59,7 @@ broken_encode (c ∷ cs) n at room h =
 ends_so : (at : ℕ) (c : Command) → not (goes_on c) ≡ true → end_at at c ≡ Ok tt
 ends_so at c = go (goes_on c)
   where
-    go : (b : Bool) → not b ≡ true → ◌≡◌ {A = Result (Unit {0}) ListingFault} (cond b (Err (fault RunsOffTheEnd at)) (Ok tt)) (Ok tt)
+    go : (b : Bool) → not b ≡ true → ◌≡◌ {A = Result (Unit {0}) ListingFault} (cond b (Err (fault (RunsOffTheEnd c) at)) (Ok tt)) (Ok tt)
     go true h = cc
     go false h = refl
 

@@ -15,27 +15,28 @@ use Rattle.readers.specs.Flow.{inside, goes_on, end_at, flow}
 use Rattle.readers.specs.Reading.{run}
 use Rattle.readers.specs.Refusals.{WholeRun, Refused}
 use Rattle.readers.specs.FormLaws.{leads_in, ends_there}
-use Rattle.readers.proofs.Sizes.{width_written, same_fault}
+use Rattle.readers.proofs.Sizes.{width_written, false_from, same_fault}
 
--- where a run leads, from the offset `at` on
-abbrev pub Outside : ℕ → ℕ → List Command → ℕ → Type 0
-Outside n at cs place =
-    (front : List Command) × (c : Command) × (back : List Command) × (cs ≡ front ++ c ∷ back)
+-- from the offset `at` on, the first command that leads outside is c
+abbrev pub Outside : ℕ → ℕ → Command → List Command → ℕ → Type 0
+Outside n at c cs place =
+    (front : List Command) × (back : List Command) × (cs ≡ front ++ c ∷ back)
     × (place ≡ at + length (encode front)) × AllByRecursion (LeadsInside n) front × (LeadsInside n c → ⊥)
 
-abbrev pub On : ℕ → ℕ → List Command → ℕ → Type 0
-On n at cs place =
-    (front : List Command) × (last : Command) × (cs ≡ front ++ last ∷ [])
-    × (place ≡ at + length (encode front)) × AllByRecursion (LeadsInside n) cs × (MayEnd last → ⊥)
+-- none leads outside, and the last one is c and leads on
+abbrev pub On : ℕ → ℕ → Command → List Command → ℕ → Type 0
+On n at c cs place =
+    (front : List Command) × (cs ≡ front ++ c ∷ [])
+    × (place ≡ at + length (encode front)) × AllByRecursion (LeadsInside n) cs × (MayEnd c → ⊥)
 
 abbrev pub Led : Wrong → ℕ → ℕ → List Command → ℕ → Type 0
 Led NoBytes n at cs place = ⊥
 Led TooManyCommands n at cs place = ⊥
-Led UnknownCommand n at cs place = ⊥
-Led CutOff n at cs place = ⊥
-Led UnknownLock n at cs place = ⊥
-Led MissingTarget n at cs place = Outside n at cs place
-Led RunsOffTheEnd n at cs place = On n at cs place
+Led (UnknownCommand b) n at cs place = ⊥
+Led (CutOff b) n at cs place = ⊥
+Led (UnknownLock c) n at cs place = ⊥
+Led (MissingTarget c) n at cs place = Outside n at c cs place
+Led (RunsOffTheEnd c) n at cs place = On n at c cs place
 
 further : (c : Command) (front : List Command) (at place : ℕ) → place ≡ at + width c + length (encode front) → place ≡ at + length (encode (c ∷ front))
 further c front at place e =
@@ -46,13 +47,13 @@ further c front at place e =
 led_more : (w : Wrong) (n at : ℕ) (c : Command) (cs : List Command) (place : ℕ) → LeadsInside n c → Led w n (at + width c) cs place → Led w n at (c ∷ cs) place
 led_more NoBytes n at c cs place fine h = absurd h
 led_more TooManyCommands n at c cs place fine h = absurd h
-led_more UnknownCommand n at c cs place fine h = absurd h
-led_more CutOff n at c cs place fine h = absurd h
-led_more UnknownLock n at c cs place fine h = absurd h
-led_more MissingTarget n at c cs place fine h =
-    (c ∷ h.0, h.1, h.2, ap (λ l. c ∷ l) h.3, further c h.0 at place h.4, (fine, h.5), h.6)
-led_more RunsOffTheEnd n at c cs place fine h =
+led_more (UnknownCommand b) n at c cs place fine h = absurd h
+led_more (CutOff b) n at c cs place fine h = absurd h
+led_more (UnknownLock d) n at c cs place fine h = absurd h
+led_more (MissingTarget d) n at c cs place fine h =
     (c ∷ h.0, h.1, ap (λ l. c ∷ l) h.2, further c h.0 at place h.3, (fine, h.4), h.5)
+led_more (RunsOffTheEnd d) n at c cs place fine h =
+    (c ∷ h.0, ap (λ l. c ∷ l) h.1, further c h.0 at place h.2, (fine, h.3), h.4)
 
 no_end : (c : Command) → goes_on c ≡ true → MayEnd c → ⊥
 no_end c h m = let e = ends_there c m in let f : not (goes_on c) ≡ false = ap not h in cc
@@ -60,16 +61,16 @@ no_end c h m = let e = ends_there c m in let f : not (goes_on c) ≡ false = ap 
 led_end : (n at : ℕ) (c : Command) (f : ListingFault) → LeadsInside n c → end_at at c ≡ Err f → Led f.wrong n at (c ∷ []) f.at
 led_end n at c f fine = go (goes_on c) refl
   where
-    go : (b : Bool) → goes_on c ≡ b → ◌≡◌ {A = Result (Unit {0}) ListingFault} (cond b (Err (fault RunsOffTheEnd at)) (Ok tt)) (Err f) → Led f.wrong n at (c ∷ []) f.at
+    go : (b : Bool) → goes_on c ≡ b → ◌≡◌ {A = Result (Unit {0}) ListingFault} (cond b (Err (fault (RunsOffTheEnd c) at)) (Ok tt)) (Err f) → Led f.wrong n at (c ∷ []) f.at
     go true e h =
         subst (λ g. Led g.wrong n at (c ∷ []) g.at) (same_fault _ f h)
-        ([], c, refl, omega arith, (fine, tt), no_end c e)
+        ([], refl, omega arith, (fine, tt), no_end c e)
     go false e h = cc
 
-led_out : (n at : ℕ) (c : Command) (cs : List Command) (f : ListingFault) → inside n c ≡ false → ◌≡◌ {A = Result (Unit {0}) ListingFault} (Err (fault MissingTarget at)) (Err f) → Led f.wrong n at (c ∷ cs) f.at
+led_out : (n at : ℕ) (c : Command) (cs : List Command) (f : ListingFault) → inside n c ≡ false → ◌≡◌ {A = Result (Unit {0}) ListingFault} (Err (fault (MissingTarget c) at)) (Err f) → Led f.wrong n at (c ∷ cs) f.at
 led_out n at c cs f out h =
     subst (λ g. Led g.wrong n at (c ∷ cs) g.at) (same_fault _ f h)
-    ([], c, cs, refl, omega arith, tt, not_from_Decides (inside n c) (leads_in n c) out)
+    ([], cs, refl, omega arith, tt, not_from_Decides (inside n c) (leads_in n c) out)
 
 led : (n : ℕ) (end : Result (Unit {0}) ListingFault) (at : ℕ) (c : Command) (cs : List Command) (f : ListingFault) → flow n end at (c ∷ cs) ≡ Err f → Led f.wrong n at (c ∷ cs) f.at
 led n end at c [] f =
@@ -87,33 +88,26 @@ led_some n (c ∷ cs) f some h = led n (Ok tt) 0 c cs f h
 pub led_refused : (w : Wrong) (bs : List ℕ) (cs : List Command) (place : ℕ) → WholeRun bs cs → Led w (length cs) 0 cs place → Refused w bs place
 led_refused NoBytes bs cs place run h = absurd h
 led_refused TooManyCommands bs cs place run h = absurd h
-led_refused UnknownCommand bs cs place run h = absurd h
-led_refused CutOff bs cs place run h = absurd h
-led_refused UnknownLock bs cs place run h = absurd h
-led_refused MissingTarget bs cs place run h =
-    let there = h.4 in
-    (cs, run, record { front = h.0; outside = h.1; back = h.2; split = h.3; place = omega arith; inside_before = h.5; missing = h.6 })
-led_refused RunsOffTheEnd bs cs place run h =
+led_refused (UnknownCommand b) bs cs place run h = absurd h
+led_refused (CutOff b) bs cs place run h = absurd h
+led_refused (UnknownLock c) bs cs place run h = absurd h
+led_refused (MissingTarget c) bs cs place run h =
     let there = h.3 in
-    (cs, run, record { front = h.0; last = h.1; split = h.2; place = omega arith; all_inside = h.4; on = h.5 })
+    (cs, run, record { front = h.0; back = h.1; split = h.2; place = omega arith; inside_before = h.4; missing = h.5 })
+led_refused (RunsOffTheEnd c) bs cs place run h =
+    let there = h.2 in
+    (cs, run, record { front = h.0; split = h.1; place = omega arith; all_inside = h.3; on = h.4 })
 
-pub flow_outside : (n : ℕ) (end : Result (Unit {0}) ListingFault) (at : ℕ) (front : List Command) (c : Command) (back : List Command) → AllByRecursion (LeadsInside n) front → (LeadsInside n c → ⊥) → flow n end at (front ++ c ∷ back) ≡ Err (fault MissingTarget (at + length (encode front)))
+pub flow_outside : (n : ℕ) (end : Result (Unit {0}) ListingFault) (at : ℕ) (front : List Command) (c : Command) (back : List Command) → AllByRecursion (LeadsInside n) front → (LeadsInside n c → ⊥) → flow n end at (front ++ c ∷ back) ≡ Err (fault (MissingTarget c) (at + length (encode front)))
 flow_outside n end at [] c back fine out =
     let there : at ≡ at + 0 = omega arith in
-    cond-false _ _ _ (not_inside n c out) ∙ ap (λ p. Err (fault MissingTarget p)) there
-  where
-    not_inside : (n : ℕ) (c : Command) → (LeadsInside n c → ⊥) → inside n c ≡ false
-    not_inside n c out = go (inside n c) refl
-      where
-        go : (b : Bool) → inside n c ≡ b → b ≡ false
-        go true e = absurd (out ((leads_in n c).0 e))
-        go false e = refl
+    cond-false _ _ _ (false_from (inside n c) (leads_in n c) out) ∙ ap (λ p. Err (fault (MissingTarget c) p)) there
 flow_outside n end at (d ∷ front) c back fine out =
     cond-true _ _ _ ((leads_in n d).1 fine.0)
     ∙ flow_outside n (end_at at d) (at + width d) front c back fine.1 out
-    ∙ ap (λ p. Err (fault MissingTarget p)) (further d front at (at + width d + length (encode front)) refl)
+    ∙ ap (λ p. Err (fault (MissingTarget c) p)) (further d front at (at + width d + length (encode front)) refl)
 
-leads_on : (at : ℕ) (c : Command) → (MayEnd c → ⊥) → end_at at c ≡ Err (fault RunsOffTheEnd at)
+leads_on : (at : ℕ) (c : Command) → (MayEnd c → ⊥) → end_at at c ≡ Err (fault (RunsOffTheEnd c) at)
 leads_on at Stop h = absurd (h tt)
 leads_on at Pass h = refl
 leads_on at (Take k) h = refl
@@ -121,11 +115,11 @@ leads_on at (Give k) h = refl
 leads_on at (Goto t) h = absurd (h tt)
 leads_on at (Either t u) h = absurd (h tt)
 
-pub flow_on : (n : ℕ) (end : Result (Unit {0}) ListingFault) (at : ℕ) (front : List Command) (c : Command) → AllByRecursion (LeadsInside n) (front ++ c ∷ []) → (MayEnd c → ⊥) → flow n end at (front ++ c ∷ []) ≡ Err (fault RunsOffTheEnd (at + length (encode front)))
+pub flow_on : (n : ℕ) (end : Result (Unit {0}) ListingFault) (at : ℕ) (front : List Command) (c : Command) → AllByRecursion (LeadsInside n) (front ++ c ∷ []) → (MayEnd c → ⊥) → flow n end at (front ++ c ∷ []) ≡ Err (fault (RunsOffTheEnd c) (at + length (encode front)))
 flow_on n end at [] c fine out =
     let there : at ≡ at + 0 = omega arith in
-    cond-true _ _ _ ((leads_in n c).1 fine.0) ∙ leads_on at c out ∙ ap (λ p. Err (fault RunsOffTheEnd p)) there
+    cond-true _ _ _ ((leads_in n c).1 fine.0) ∙ leads_on at c out ∙ ap (λ p. Err (fault (RunsOffTheEnd c) p)) there
 flow_on n end at (d ∷ front) c fine out =
     cond-true _ _ _ ((leads_in n d).1 fine.0)
     ∙ flow_on n (end_at at d) (at + width d) front c fine.1 out
-    ∙ ap (λ p. Err (fault RunsOffTheEnd p)) (further d front at (at + width d + length (encode front)) refl)
+    ∙ ap (λ p. Err (fault (RunsOffTheEnd c) p)) (further d front at (at + width d + length (encode front)) refl)

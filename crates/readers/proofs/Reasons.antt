@@ -1,9 +1,11 @@
 -- Each refusal and its reason.
-use Rattle.std.proofs.Common.{◌≡◌, ℕ, zero, suc, ◌+◌, ◌<◌, ◌≤◌, ◌⊎◌, List, [], ◌∷◌, ◌++◌, length, Ok, Err, Result, sym, refl, ap, ◌∙◌, subst, inl, inr, append_assoc, arith, length-append}
+use Rattle.std.proofs.Common.{◌≡◌, ℕ, zero, suc, ◌+◌, ◌<◌, ◌≤◌, List, [], ◌∷◌, ◌++◌, length, Ok, Err, Result, sym, refl, ap, ◌∙◌, subst, append_assoc, arith, length-append}
 use Rattle.std.specs.List.{AllByRecursion}
-use Rattle.std.proofs.lemmas.Bool.{cond-true, cond-false, lt-ltb, le-ltb}
+use Rattle.std.proofs.lemmas.Bool.{cond-true, cond-false, lt-ltb}
+use Rattle.std.proofs.lemmas.Bool.Decides.{Decides-ltb}
 use Rattle.locks.specs.Limits.{lock_limit}
 use Rattle.readers.specs.declared.listing.command.Command.{Command}
+use Rattle.readers.specs.declared.listing.command.Command.TheVariants.{Stop, Pass, Take, Give, Goto, Either}
 use Rattle.readers.specs.declared.listing.fault.Wrong.{Wrong}
 use Rattle.readers.specs.declared.listing.fault.Wrong.TheVariants.{NoBytes, TooManyCommands, UnknownCommand, CutOff, UnknownLock, MissingTarget, RunsOffTheEnd}
 use Rattle.readers.specs.declared.listing.fault.ListingFault.{ListingFault}
@@ -13,13 +15,13 @@ use Rattle.readers.specs.Faults.{fault}
 use Rattle.readers.specs.Flow.{most, flow}
 use Rattle.readers.specs.Reading.{given, broken, run, or_flow, refusal, listing}
 use Rattle.readers.specs.Refusals.{operands, WrongBytes, WholeRun, Refused}
-use Rattle.readers.proofs.Steps.{broken_more, broken_many, broken_wrong}
+use Rattle.readers.proofs.Steps.{width_some, broken_more, broken_many, broken_wrong}
 use Rattle.readers.proofs.Checks.{refusal_some}
 use Rattle.readers.proofs.Accepted.{few, some_command, bytes_written, locks_known}
 use Rattle.readers.specs.FormLaws.{all_locks}
 use Rattle.readers.proofs.Laws.{first_written, drop_written, refusal_encode}
 use Rattle.readers.proofs.Leading.{led_some, led_refused, flow_outside, flow_on}
-use Rattle.readers.proofs.Sizes.{width_written, same_fault}
+use Rattle.readers.proofs.Sizes.{width_written, false_from, same_fault}
 use Rattle.readers.proofs.Stuck.{stuck, stuck_refused}
 
 given_fault : {X : Type 0} (r : Result (Unit {0}) ListingFault) (x : X) (f : ListingFault) → given r x ≡ Err f → r ≡ Err f
@@ -85,9 +87,8 @@ behind w bs place i room some stops =
     ∙ stops (0 + length i.before) count)
 
 -- where the first command of the rest cannot be taken off
-behind_first : (w : Wrong) (bs : List ℕ) (place : ℕ) {n : ℕ} → (i : WrongBytes w bs place) → length i.before < most → length i.rest ≡ suc n → first highest i.rest ≡ Err w → refusal bs ≡ Err (fault w place)
-behind_first w bs place i few long e =
-    let some : 0 < length i.rest = omega arith in
+behind_first : (w : Wrong) (bs : List ℕ) (place : ℕ) (i : WrongBytes w bs place) → length i.before < most → 0 < length i.rest → first highest i.rest ≡ Err w → refusal bs ≡ Err (fault w place)
+behind_first w bs place i few some e =
     behind w bs place i (omega arith) some (λ n same. broken_wrong n place i.rest w some (omega arith) e)
 
 six : (P : ℕ → Type 0) → P 0 → P 1 → P 2 → P 3 → P 4 → P 5 → (b : ℕ) → b ≤ highest → P b
@@ -100,9 +101,9 @@ six P a₀ a₁ a₂ a₃ a₄ a₅ (suc (suc (suc (suc (suc zero))))) h = a₅
 six P a₀ a₁ a₂ a₃ a₄ a₅ (suc (suc (suc (suc (suc (suc b)))))) h = absurd (omega arith)
 
 abbrev Cut : ℕ → Type 0
-Cut b = (more : List ℕ) → length more < operands b → first highest (b ∷ more) ≡ Err CutOff
+Cut b = (more : List ℕ) → length more < operands b → first highest (b ∷ more) ≡ Err (CutOff b)
 
-cut_lock : (b : ℕ) → operands b ≡ 1 → first highest (b ∷ []) ≡ Err CutOff → Cut b
+cut_lock : (b : ℕ) → operands b ≡ 1 → first highest (b ∷ []) ≡ Err (CutOff b) → Cut b
 cut_lock b one e [] h = e
 cut_lock b one e (k ∷ more) h = absurd (omega arith)
 
@@ -121,9 +122,19 @@ cut_either (x ∷ y ∷ z ∷ u ∷ more) h = absurd (omega arith)
 cut : (b : ℕ) → b ≤ highest → Cut b
 cut = six Cut (λ more h. absurd (omega arith)) (λ more h. absurd (omega arith)) (cut_lock 2 refl refl) (cut_lock 3 refl refl) cut_goto cut_either
 
-bad_lock : (b k : ℕ) (more : List ℕ) → (b ≡ 2) ⊎ (b ≡ 3) → lock_limit ≤ k → first highest (b ∷ k ∷ more) ≡ Err UnknownLock
-bad_lock b k more (inl e) h = ap (λ x. first highest (x ∷ k ∷ more)) e ∙ cond-false _ _ _ (le-ltb k lock_limit h)
-bad_lock b k more (inr e) h = ap (λ x. first highest (x ∷ k ∷ more)) e ∙ cond-false _ _ _ (le-ltb k lock_limit h)
+unknown_lock : (c : Command) (more : List ℕ) → (LockIsKnown c → ⊥) → first highest (written c ++ more) ≡ Err (UnknownLock c)
+unknown_lock Stop more h = absurd (h tt)
+unknown_lock Pass more h = absurd (h tt)
+unknown_lock (Take k) more h = cond-false _ _ _ (false_from _ (Decides-ltb k lock_limit) h)
+unknown_lock (Give k) more h = cond-false _ _ _ (false_from _ (Decides-ltb k lock_limit) h)
+unknown_lock (Goto t) more h = absurd (h tt)
+unknown_lock (Either t u) more h = absurd (h tt)
+
+some_in : (b : ℕ) (more rest : List ℕ) → rest ≡ b ∷ more → 0 < length rest
+some_in b more rest e = omega (arith, ap length e)
+
+some_written : (c : Command) (more rest : List ℕ) → rest ≡ written c ++ more → 0 < length rest
+some_written c more rest e = omega (arith, ap length e, length-append (written c) more, width_written c, width_some c)
 
 whole_refusal : (bs : List ℕ) (cs : List Command) → WholeRun bs cs → refusal bs ≡ flow (length cs) (Ok tt) 0 cs
 whole_refusal bs cs w = ap refusal w.whole ∙ refusal_encode cs w.some w.few w.locks_known
@@ -134,33 +145,33 @@ only_so TooManyCommands bs place i =
     let x = i.wrong in
     let full = x.0 in
     behind TooManyCommands bs place i (omega arith) x.1 (λ n e. broken_many n place i.rest x.1 (omega arith))
-only_so UnknownCommand bs place i =
+only_so (UnknownCommand b) bs place i =
     let x = i.wrong in
-    behind_first UnknownCommand bs place i x.0 (ap length x.1.2) (ap (first highest) x.1.2 ∙ cond-true _ _ _ (lt-ltb highest x.1.0 x.1.3))
-only_so CutOff bs place i =
+    behind_first (UnknownCommand b) bs place i x.0 (some_in b x.1.0 i.rest x.1.1) (ap (first highest) x.1.1 ∙ cond-true _ _ _ (lt-ltb highest b x.1.2))
+only_so (CutOff b) bs place i =
     let x = i.wrong in
-    behind_first CutOff bs place i x.0 (ap length x.1.2) (ap (first highest) x.1.2 ∙ cut x.1.0 x.1.3 x.1.1 x.1.4)
-only_so UnknownLock bs place i =
+    behind_first (CutOff b) bs place i x.0 (some_in b x.1.0 i.rest x.1.1) (ap (first highest) x.1.1 ∙ cut b x.1.2 x.1.0 x.1.3)
+only_so (UnknownLock c) bs place i =
     let x = i.wrong in
-    behind_first UnknownLock bs place i x.0 (ap length x.1.3) (ap (first highest) x.1.3 ∙ bad_lock x.1.0 x.1.1 x.1.2 x.1.4 x.1.5)
-only_so MissingTarget bs place h =
+    behind_first (UnknownLock c) bs place i x.0 (some_written c x.1.0 i.rest x.1.1) (ap (first highest) x.1.1 ∙ unknown_lock c x.1.0 x.1.2)
+only_so (MissingTarget c) bs place h =
     let cs = h.0 in
     let o = h.2 in
     let at = o.place in
     let there : 0 + length (encode o.front) ≡ place = omega arith in
     whole_refusal bs cs h.1
     ∙ ap (flow (length cs) (Ok tt) 0) o.split
-    ∙ flow_outside (length cs) (Ok tt) 0 o.front o.outside o.back o.inside_before o.missing
-    ∙ ap (λ p. Err (fault MissingTarget p)) there
-only_so RunsOffTheEnd bs place h =
+    ∙ flow_outside (length cs) (Ok tt) 0 o.front c o.back o.inside_before o.missing
+    ∙ ap (λ p. Err (fault (MissingTarget c) p)) there
+only_so (RunsOffTheEnd c) bs place h =
     let cs = h.0 in
     let o = h.2 in
     let at = o.place in
     let there : 0 + length (encode o.front) ≡ place = omega arith in
     whole_refusal bs cs h.1
     ∙ ap (flow (length cs) (Ok tt) 0) o.split
-    ∙ flow_on (length cs) (Ok tt) 0 o.front o.last (subst (AllByRecursion (LeadsInside (length cs))) o.split o.all_inside) o.on
-    ∙ ap (λ p. Err (fault RunsOffTheEnd p)) there
+    ∙ flow_on (length cs) (Ok tt) 0 o.front c (subst (AllByRecursion (LeadsInside (length cs))) o.split o.all_inside) o.on
+    ∙ ap (λ p. Err (fault (RunsOffTheEnd c) p)) there
 
 pub only : (bs : List ℕ) (f : ListingFault) → Refused f.wrong bs f.at → listing bs ≡ Err f
 only bs f h = ap (λ r. given r (run 0 bs)) (only_so f.wrong bs f.at h)

@@ -29,21 +29,21 @@ refused bs w c e = cc
 read : (bs : List ℕ) (d : Command) → Spelt bs d → Reads bs (Ok d)
 read bs d s c e = let same : d ≡ c = cc in subst (Spelt bs) same s
 
-lock_after : (make : ℕ → Command) (b : ℕ) (bs : List ℕ) → ((k : ℕ) (rest : List ℕ) → k < lock_limit → Spelt (b ∷ k ∷ rest) (make k)) → Reads (b ∷ bs) (with_lock make bs)
-lock_after make b [] is = refused _ CutOff
+lock_after : (make : ℕ → Command) (b : ℕ) (bs : List ℕ) → ((k : ℕ) (rest : List ℕ) → k < lock_limit → Spelt (b ∷ k ∷ rest) (make k)) → Reads (b ∷ bs) (with_lock b make bs)
+lock_after make b [] is = refused _ (CutOff b)
 lock_after make b (k ∷ bs) is =
-    cond_both (nat_lt k lock_limit) _ _ (Reads (b ∷ k ∷ bs)) (λ y. read _ (make k) (is k bs (ltb-true k lock_limit y))) (λ _. refused _ UnknownLock)
+    cond_both (nat_lt k lock_limit) _ _ (Reads (b ∷ k ∷ bs)) (λ y. read _ (make k) (is k bs (ltb-true k lock_limit y))) (λ _. refused _ (UnknownLock (make k)))
 
-goto_target : (b : ℕ) (bs : List ℕ) → b ≡ 4 → Reads (b ∷ bs) (with_target bs)
-goto_target b [] t = refused _ CutOff
-goto_target b (h ∷ []) t = refused _ CutOff
+goto_target : (b : ℕ) (bs : List ℕ) → b ≡ 4 → Reads (b ∷ bs) (with_target b bs)
+goto_target b [] t = refused _ (CutOff b)
+goto_target b (h ∷ []) t = refused _ (CutOff b)
 goto_target b (h ∷ l ∷ bs) t = read _ (Goto (256 * h + l)) (bs, h, l, ap (λ x. x ∷ h ∷ l ∷ bs) t, refl)
 
-either_targets : (b : ℕ) (bs : List ℕ) → b ≡ 5 → Reads (b ∷ bs) (with_targets bs)
-either_targets b [] t = refused _ CutOff
-either_targets b (h ∷ []) t = refused _ CutOff
-either_targets b (h ∷ l ∷ []) t = refused _ CutOff
-either_targets b (h ∷ l ∷ k ∷ []) t = refused _ CutOff
+either_targets : (b : ℕ) (bs : List ℕ) → b ≡ 5 → Reads (b ∷ bs) (with_targets b bs)
+either_targets b [] t = refused _ (CutOff b)
+either_targets b (h ∷ []) t = refused _ (CutOff b)
+either_targets b (h ∷ l ∷ []) t = refused _ (CutOff b)
+either_targets b (h ∷ l ∷ k ∷ []) t = refused _ (CutOff b)
 either_targets b (h ∷ l ∷ k ∷ m ∷ bs) t =
     read _ (Either (256 * h + l) (256 * k + m)) (bs, h, l, k, m, ap (λ x. x ∷ h ∷ l ∷ k ∷ m ∷ bs) t, refl, refl)
 
@@ -54,14 +54,14 @@ kinds b bs =
     cond_both (b == 2) _ _ P (λ y. lock_after Take b bs (λ k rest h. (rest, ap (λ x. x ∷ k ∷ rest) (eqb-true b 2 y), h))) (λ _.
     cond_both (b == 3) _ _ P (λ y. lock_after Give b bs (λ k rest h. (rest, ap (λ x. x ∷ k ∷ rest) (eqb-true b 3 y), h))) (λ _.
     cond_both (b == 4) _ _ P (λ y. goto_target b bs (eqb-true b 4 y)) (λ _.
-    cond_both (b == 5) _ _ P (λ y. either_targets b bs (eqb-true b 5 y)) (λ _. refused _ UnknownCommand))))))
+    cond_both (b == 5) _ _ P (λ y. either_targets b bs (eqb-true b 5 y)) (λ _. refused _ (UnknownCommand b)))))))
   where
     P : Result Command Wrong → Type 0
     P = Reads (b ∷ bs)
 
 pub spelt : (bs : List ℕ) → Reads bs (first highest bs)
 spelt [] = refused [] _
-spelt (b ∷ bs) = cond_both (nat_lt highest b) _ _ (Reads (b ∷ bs)) (λ _. refused _ UnknownCommand) (λ _. kinds b bs)
+spelt (b ∷ bs) = cond_both (nat_lt highest b) _ _ (Reads (b ∷ bs)) (λ _. refused _ (UnknownCommand b)) (λ _. kinds b bs)
 
 -- a command lies within the bytes that it was read from
 pub spelt_within : (bs : List ℕ) (c : Command) → Spelt bs c → width c ≤ length bs

@@ -90,8 +90,8 @@ wrong_bytes w bs place i =
 pub stuck_refused : (w : Wrong) (bs : List ℕ) (place : ℕ) → Stuck w bs 0 0 place → Refused w bs place
 stuck_refused NoBytes bs place i = absurd i.wrong
 stuck_refused TooManyCommands bs place i = wrong_bytes TooManyCommands bs place i
-stuck_refused UnknownCommand bs place i = wrong_bytes UnknownCommand bs place i
-stuck_refused CutOff bs place i = wrong_bytes CutOff bs place i
-stuck_refused UnknownLock bs place i = wrong_bytes UnknownLock bs place i
-stuck_refused MissingTarget bs place i = absurd i.wrong
-stuck_refused RunsOffTheEnd bs place i = absurd i.wrong
+stuck_refused (UnknownCommand b) bs place i = wrong_bytes (UnknownCommand b) bs place i
+stuck_refused (CutOff b) bs place i = wrong_bytes (CutOff b) bs place i
+stuck_refused (UnknownLock c) bs place i = wrong_bytes (UnknownLock c) bs place i
+stuck_refused (MissingTarget c) bs place i = absurd i.wrong
+stuck_refused (RunsOffTheEnd c) bs place i = absurd i.wrong

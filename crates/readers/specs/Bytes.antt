@@ -7,40 +7,37 @@ use Rattle.readers.specs.declared.listing.command.Command.TheVariants.{Stop, Pas
 use Rattle.readers.specs.declared.listing.fault.Wrong.{Wrong}
 use Rattle.readers.specs.declared.listing.fault.Wrong.TheVariants.{NoBytes, UnknownCommand, CutOff, UnknownLock}
 
-abbrev pub lock_or : ℕ → Result ℕ Wrong
-lock_or k = cond (nat_lt k lock_limit) (Ok k) (Err UnknownLock)
+-- the operands after each command byte, which is b
+abbrev pub with_lock : ℕ → (ℕ → Command) → List ℕ → Result Command Wrong
+with_lock b make [] = Err (CutOff b)
+with_lock b make (k ∷ bs) = cond (nat_lt k lock_limit) (Ok (make k)) (Err (UnknownLock (make k)))
 
--- the operands after each command byte
-abbrev pub with_lock : (ℕ → Command) → List ℕ → Result Command Wrong
-with_lock make [] = Err CutOff
-with_lock make (k ∷ bs) = cond (nat_lt k lock_limit) (Ok (make k)) (Err UnknownLock)
+abbrev pub with_target : ℕ → List ℕ → Result Command Wrong
+with_target b [] = Err (CutOff b)
+with_target b (h ∷ []) = Err (CutOff b)
+with_target b (h ∷ l ∷ bs) = Ok (Goto (256 * h + l))
 
-abbrev pub with_target : List ℕ → Result Command Wrong
-with_target [] = Err CutOff
-with_target (h ∷ []) = Err CutOff
-with_target (h ∷ l ∷ bs) = Ok (Goto (256 * h + l))
-
-abbrev pub with_targets : List ℕ → Result Command Wrong
-with_targets [] = Err CutOff
-with_targets (h ∷ []) = Err CutOff
-with_targets (h ∷ l ∷ []) = Err CutOff
-with_targets (h ∷ l ∷ k ∷ []) = Err CutOff
-with_targets (h ∷ l ∷ k ∷ m ∷ bs) = Ok (Either (256 * h + l) (256 * k + m))
+abbrev pub with_targets : ℕ → List ℕ → Result Command Wrong
+with_targets b [] = Err (CutOff b)
+with_targets b (h ∷ []) = Err (CutOff b)
+with_targets b (h ∷ l ∷ []) = Err (CutOff b)
+with_targets b (h ∷ l ∷ k ∷ []) = Err (CutOff b)
+with_targets b (h ∷ l ∷ k ∷ m ∷ bs) = Ok (Either (256 * h + l) (256 * k + m))
 
 abbrev pub by_kind : ℕ → List ℕ → Result Command Wrong
 by_kind b bs =
     cond (b == 0) (Ok Stop)
     (cond (b == 1) (Ok Pass)
-    (cond (b == 2) (with_lock Take bs)
-    (cond (b == 3) (with_lock Give bs)
-    (cond (b == 4) (with_target bs)
-    (cond (b == 5) (with_targets bs)
-    (Err UnknownCommand))))))
+    (cond (b == 2) (with_lock b Take bs)
+    (cond (b == 3) (with_lock b Give bs)
+    (cond (b == 4) (with_target b bs)
+    (cond (b == 5) (with_targets b bs)
+    (Err (UnknownCommand b)))))))
 
 -- the first command of the bytes
 abbrev pub first : ℕ → List ℕ → Result Command Wrong
 first highest [] = Err NoBytes
-first highest (b ∷ bs) = cond (nat_lt highest b) (Err UnknownCommand) (by_kind b bs)
+first highest (b ∷ bs) = cond (nat_lt highest b) (Err (UnknownCommand b)) (by_kind b bs)
 
 -- how many bytes a command takes
 abbrev pub width : Command → ℕ

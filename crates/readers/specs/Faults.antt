@@ -11,12 +11,12 @@ fault w n = record { wrong = w; at = n }
 
 abbrev pub number : Wrong → ℕ
 number NoBytes = 1
-number UnknownCommand = 2
-number CutOff = 3
+number (UnknownCommand b) = 2
+number (CutOff b) = 3
 number TooManyCommands = 4
-number UnknownLock = 5
-number MissingTarget = 6
-number RunsOffTheEnd = 7
+number (UnknownLock c) = 5
+number (MissingTarget c) = 6
+number (RunsOffTheEnd c) = 7
 
 -- the number, the place and the part of a refusal
 abbrev pub listing_refusal : ListingFault → Refusal

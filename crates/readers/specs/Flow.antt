@@ -3,7 +3,8 @@ use Rattle.std.specs.Prelude.{ℕ, ◌+◌, Bool, true, false, cond, not, ◌&&�
 use Rattle.locks.specs.Limits.{lock_limit, most_locations}
 use Rattle.readers.specs.declared.listing.command.Command.{Command}
 use Rattle.readers.specs.declared.listing.command.Command.TheVariants.{Stop, Pass, Take, Give, Goto, Either}
-use Rattle.readers.specs.declared.listing.fault.Wrong.TheVariants.{MissingTarget, RunsOffTheEnd}
+use Rattle.readers.specs.declared.listing.fault.Wrong.{Wrong}
+use Rattle.readers.specs.declared.listing.fault.Wrong.TheVariants.{UnknownLock, MissingTarget, RunsOffTheEnd}
 use Rattle.readers.specs.declared.listing.fault.ListingFault.{ListingFault}
 use Rattle.readers.specs.Bytes.{width}
 use Rattle.readers.specs.Faults.{fault}
@@ -39,14 +40,18 @@ command_lock_known (Give k) = nat_lt k lock_limit
 command_lock_known (Goto t) = true
 command_lock_known (Either t u) = true
 
+-- the command, where its lock is one that there is
+abbrev pub with_known_lock : Command → Result Command Wrong
+with_known_lock c = cond (command_lock_known c) (Ok c) (Err (UnknownLock c))
+
 -- what a run that ends with the command c at this offset is refused for
 abbrev pub end_at : ℕ → Command → Result (Unit {0}) ListingFault
-end_at at c = cond (goes_on c) (Err (fault RunsOffTheEnd at)) (Ok tt)
+end_at at c = cond (goes_on c) (Err (fault (RunsOffTheEnd c) at)) (Ok tt)
 
 -- the first command that leads to no command, else what the last one is refused for: `end` if there is none
 abbrev pub flow : ℕ → Result (Unit {0}) ListingFault → ℕ → List Command → Result (Unit {0}) ListingFault
 flow n end at [] = end
-flow n end at (c ∷ cs) = cond (inside n c) (flow n (end_at at c) (at + width c) cs) (Err (fault MissingTarget at))
+flow n end at (c ∷ cs) = cond (inside n c) (flow n (end_at at c) (at + width c) cs) (Err (fault (MissingTarget c) at))
 
 abbrev pub all_lead_inside : ℕ → List Command → Bool
 all_lead_inside n [] = true

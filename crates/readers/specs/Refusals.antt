@@ -1,11 +1,10 @@
 -- Why bytes are refused, in the subject's words.
-use Rattle.std.specs.Prelude.{◌≡◌, ℕ, ◌<◌, ◌≤◌, cond, ◌⊎◌, List, [], ◌∷◌, ◌++◌, length, ◌==◌, nat_lt}
+use Rattle.std.specs.Prelude.{◌≡◌, ℕ, ◌<◌, ◌≤◌, cond, List, [], ◌∷◌, ◌++◌, length, ◌==◌, nat_lt}
 use Rattle.std.specs.List.{AllByRecursion}
-use Rattle.locks.specs.Limits.{lock_limit}
 use Rattle.readers.specs.declared.listing.command.Command.{Command}
 use Rattle.readers.specs.declared.listing.fault.Wrong.{Wrong}
 use Rattle.readers.specs.declared.listing.fault.Wrong.TheVariants.{NoBytes, TooManyCommands, UnknownCommand, CutOff, UnknownLock, MissingTarget, RunsOffTheEnd}
-use Rattle.readers.specs.Encoding.{highest, encode, LockIsKnown, LeadsInside, MayEnd}
+use Rattle.readers.specs.Encoding.{written, highest, encode, LockIsKnown, LeadsInside, MayEnd}
 use Rattle.readers.specs.Flow.{most}
 
 -- how many bytes of operands follow a command's byte
@@ -16,11 +15,11 @@ operands b = cond (nat_lt b 2) 0 (cond (nat_lt b 4) 1 (cond (b == 4) 2 4))
 abbrev pub WrongThere : Wrong → ℕ → List ℕ → Type 0
 WrongThere NoBytes n rest = ⊥
 WrongThere TooManyCommands n rest = (n ≡ most) × (0 < length rest)
-WrongThere UnknownCommand n rest = (n < most) × ((b : ℕ) × (more : List ℕ) × (rest ≡ b ∷ more) × (highest < b))
-WrongThere CutOff n rest = (n < most) × ((b : ℕ) × (more : List ℕ) × (rest ≡ b ∷ more) × (b ≤ highest) × (length more < operands b))
-WrongThere UnknownLock n rest = (n < most) × ((b : ℕ) × (k : ℕ) × (more : List ℕ) × (rest ≡ b ∷ k ∷ more) × ((b ≡ 2) ⊎ (b ≡ 3)) × (lock_limit ≤ k))
-WrongThere MissingTarget n rest = ⊥
-WrongThere RunsOffTheEnd n rest = ⊥
+WrongThere (UnknownCommand b) n rest = (n < most) × ((more : List ℕ) × (rest ≡ b ∷ more) × (highest < b))
+WrongThere (CutOff b) n rest = (n < most) × ((more : List ℕ) × (rest ≡ b ∷ more) × (b ≤ highest) × (length more < operands b))
+WrongThere (UnknownLock c) n rest = (n < most) × ((more : List ℕ) × (rest ≡ written c ++ more) × (LockIsKnown c → ⊥))
+WrongThere (MissingTarget c) n rest = ⊥
+WrongThere (RunsOffTheEnd c) n rest = ⊥
 
 -- whole commands stand before the place, and what is wrong is there
 pub record WrongBytes (w : Wrong) (bs : List ℕ) (at : ℕ) : Type 0 where
@@ -38,30 +37,28 @@ pub record WholeRun (bs : List ℕ) (cs : List Command) : Type 0 where
   pub whole : bs ≡ encode cs
   pub locks_known : AllByRecursion LockIsKnown cs
 
--- the first command with a target that is no command
-pub record LeadsOutside (cs : List Command) (at : ℕ) : Type 0 where
+-- c is the first command with a target that is no command
+pub record LeadsOutside (cs : List Command) (c : Command) (at : ℕ) : Type 0 where
   pub front : List Command
-  pub outside : Command
   pub back : List Command
-  pub split : cs ≡ front ++ outside ∷ back
+  pub split : cs ≡ front ++ c ∷ back
   pub place : at ≡ length (encode front)
   pub inside_before : AllByRecursion (LeadsInside (length cs)) front
-  pub missing : LeadsInside (length cs) outside → ⊥
+  pub missing : LeadsInside (length cs) c → ⊥
 
--- all targets are commands, and the last command leads on
-pub record LeadsOn (cs : List Command) (at : ℕ) : Type 0 where
+-- all targets are commands, and the last command is c and leads on
+pub record LeadsOn (cs : List Command) (c : Command) (at : ℕ) : Type 0 where
   pub front : List Command
-  pub last : Command
-  pub split : cs ≡ front ++ last ∷ []
+  pub split : cs ≡ front ++ c ∷ []
   pub place : at ≡ length (encode front)
   pub all_inside : AllByRecursion (LeadsInside (length cs)) cs
-  pub on : MayEnd last → ⊥
+  pub on : MayEnd c → ⊥
 
 abbrev pub Refused : Wrong → List ℕ → ℕ → Type 0
 Refused NoBytes bs at = (bs ≡ []) × (at ≡ 0)
 Refused TooManyCommands bs at = WrongBytes TooManyCommands bs at
-Refused UnknownCommand bs at = WrongBytes UnknownCommand bs at
-Refused CutOff bs at = WrongBytes CutOff bs at
-Refused UnknownLock bs at = WrongBytes UnknownLock bs at
-Refused MissingTarget bs at = (cs : List Command) × WholeRun bs cs × LeadsOutside cs at
-Refused RunsOffTheEnd bs at = (cs : List Command) × WholeRun bs cs × LeadsOn cs at
+Refused (UnknownCommand b) bs at = WrongBytes (UnknownCommand b) bs at
+Refused (CutOff b) bs at = WrongBytes (CutOff b) bs at
+Refused (UnknownLock c) bs at = WrongBytes (UnknownLock c) bs at
+Refused (MissingTarget c) bs at = (cs : List Command) × WholeRun bs cs × LeadsOutside cs c at
+Refused (RunsOffTheEnd c) bs at = (cs : List Command) × WholeRun bs cs × LeadsOn cs c at

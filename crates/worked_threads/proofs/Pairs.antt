@@ -25,8 +25,9 @@ use Rattle.pairs.proofs.AskLaws.{one_judgement}
 use Rattle.readers.specs.declared.listing.command.Command.{Command}
 use Rattle.readers.specs.Graph.{listing_graph}
 use Rattle.readers.specs.Reading.{listing}
+use Rattle.readers.specs.Saying.{ListingSays}
 use Rattle.readers.specs.GraphLaws.{listing_bounded}
-use Rattle.readers.proofs.Laws.{listings}
+use Rattle.readers.proofs.Saying.{listing_says}
 use Rattle.search.specs.declared.entries.Entry.{Entry}
 use Rattle.search.specs.Summaries.{state_in, Summary}
 use Rattle.search.proofs.SearchLaws.{EntryAt}
@@ -44,19 +45,25 @@ bytes_say : (bs : List ℕ) → all_bytes bs ≡ true → AllByRecursion (λ b. 
 bytes_say [] t = tt
 bytes_say (b ∷ bs) t = let p = and_parts (ltb b 256) (all_bytes bs) t in (ltb-true b 256 p.0, bytes_say bs p.1)
 
+pub bytes_read : (bs : List ℕ) (cs : List Command) → all_bytes bs ≡ true → listing bs ≡ Ok cs → ListingSays bs (Ok cs)
+bytes_read bs cs t e = listing_says bs (Ok cs) (bytes_say bs t) e
+
 pub record Thread (bytes : List ℕ) (cs : List Command) (es : List Entry) : Type 0 where
   pub bytes_small : all_bytes bytes ≡ true
   pub reads : listing bytes ≡ Ok cs
   pub test : count_test (listing_graph cs) es ≡ true
 
 module _ {bytes : List ℕ} {cs : List Command} {es : List Entry} (thread : Thread bytes cs es) where
+  pub said : ListingSays bytes (Ok cs)
+  said = bytes_read bytes cs thread.bytes_small thread.reads
+
   pub summary : Summary (listing_graph cs) es
   summary = (count_answer (listing_graph cs) es thread.test).says.1
 
   pub judged : Judged (listing_graph cs)
   judged =
       record {
-        bounded = listing_bounded cs (listings.read_back bytes cs (bytes_say bytes thread.bytes_small) thread.reads).1;
+        bounded = listing_bounded cs said.1;
         faultless = (count_answer (listing_graph cs) es thread.test).says.0.1;
       }
 

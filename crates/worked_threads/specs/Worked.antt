@@ -14,7 +14,7 @@ use Rattle.pairs.specs.declared.answers.AskFault.{AskFault}
 use Rattle.pairs.specs.Answers.{ask_refusal, Answered}
 use Rattle.readers.specs.declared.listing.command.Command.{Command}
 use Rattle.readers.specs.Graph.{listing_graph}
-use Rattle.readers.specs.Reading.{listing}
+use Rattle.readers.specs.Saying.{ListingSays}
 use Rattle.search.specs.declared.entries.Entry.{Entry}
 use Rattle.search.specs.declared.faults.SummariseFault.{SummariseFault}
 use Rattle.search.specs.Faults.{summarise_refusal}
@@ -22,9 +22,9 @@ use Rattle.search.specs.Summaries.{Apart}
 use Rattle.search.specs.Summarising.{Summarised}
 use Rattle.worked_threads.specs.Threads.{inner_one, inner_zero, two_ways, outer_given_first, five_taken, four_taken, given_untaken, taken_twice}
 
--- the bytes are read as a run of commands, and this holds of the graph that it means
+-- the bytes say a run of commands, and this holds of the graph that it means
 abbrev pub OfThread : List ℕ → (Graph → Type 0) → Type 0
-OfThread bytes P = (cs : List Command) × (listing bytes ≡ Ok cs) × P (listing_graph cs)
+OfThread bytes P = (cs : List Command) × ListingSays bytes (Ok cs) × P (listing_graph cs)
 
 abbrev pub OfThreads : List ℕ → List ℕ → (Graph → Graph → Type 0) → Type 0
 OfThreads left right P = OfThread left (λ G. OfThread right (λ H. P G H))

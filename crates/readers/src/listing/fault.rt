@@ -2,6 +2,7 @@
 ghost use Rattle.std.specs.Prelude.{◌≡◌};
 ghost use Rattle.readers.specs.Faults.{fault, number, listing_refusal};
 
+use crate::listing::Command;
 use locks::refusals::{Part, Refusal};
 
 // Why a listing is refused. The middle four are looked for front to back, the last two once the whole run is read.
@@ -9,11 +10,16 @@ use locks::refusals::{Part, Refusal};
 pub enum Wrong {
     NoBytes,
     TooManyCommands,
-    UnknownCommand,
-    CutOff,
-    UnknownLock,
-    MissingTarget,
-    RunsOffTheEnd,
+    // This byte begins no command.
+    UnknownCommand(u8),
+    // The bytes end within the operands of the command that this byte begins.
+    CutOff(u8),
+    // The TAKE or GIVE as it stands there, whose lock there is not.
+    UnknownLock(Command),
+    // The GOTO or EITHER, a target of which is no command of the listing.
+    MissingTarget(Command),
+    // The last command, which leads on.
+    RunsOffTheEnd(Command),
 }
 
 // `at` is the offset of the command that is wrong.
@@ -36,12 +42,12 @@ impl Wrong {
     {
         match self {
             Wrong::NoBytes => 1,
-            Wrong::UnknownCommand => 2,
-            Wrong::CutOff => 3,
+            Wrong::UnknownCommand(_) => 2,
+            Wrong::CutOff(_) => 3,
             Wrong::TooManyCommands => 4,
-            Wrong::UnknownLock => 5,
-            Wrong::MissingTarget => 6,
-            Wrong::RunsOffTheEnd => 7,
+            Wrong::UnknownLock(_) => 5,
+            Wrong::MissingTarget(_) => 6,
+            Wrong::RunsOffTheEnd(_) => 7,
         }
     }
 }

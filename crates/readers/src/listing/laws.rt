@@ -7,7 +7,7 @@ ghost use Rattle.readers.specs.Saying.{BytesSayOneListing};
 
 use crate::listing::Listing;
 
-// Bytes are a well-formed run of commands, written one after another, or there is a reason to refuse them: never neither, and never two of these.
+// All bytes are a well-formed run of commands, written one after another, or there is a reason to refuse them; and there is one such run or reason only.
 pub fn bytes_say_one_listing()
     ensures { BytesSayOneListing }
 {}

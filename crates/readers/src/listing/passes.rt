@@ -28,7 +28,7 @@ fn end_at(command: Command, at: usize) -> Result<(), ListingFault>
     ensures { result ≡ end_at at command }
 {
     if command.goes_on() {
-        return Err(Wrong::RunsOffTheEnd.at(at));
+        return Err(Wrong::RunsOffTheEnd(command).at(at));
     }
     Ok(())
 }
@@ -41,7 +41,7 @@ fn check_flow(bytes: &[u8], count: usize) -> Result<(), ListingFault>
     for (at, command) in Commands::new(bytes) {
         let Ok(command) = command else { break };
         if !command.leads_inside(count) {
-            return Err(Wrong::MissingTarget.at(at));
+            return Err(Wrong::MissingTarget(command).at(at));
         }
         end = end_at(command, at);
     }

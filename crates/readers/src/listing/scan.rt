@@ -1,18 +1,21 @@
 // Takes commands off the front of the bytes.
 ghost use Rattle.std.specs.Prelude.{◌≡◌, ◌+◌, ◌*◌};
-ghost use Rattle.readers.specs.Bytes.{Taken, lock_or};
+ghost use Rattle.readers.specs.Bytes.{Taken};
+ghost use Rattle.readers.specs.Flow.{with_known_lock};
 ghost use Rattle.readers.specs.Encoding.{highest};
 
 use crate::listing::{Command, Wrong};
 use locks::sets::LOCKS;
 
-fn known_lock(lock: u8) -> Result<u8, Wrong>
-    ensures { result ≡ lock_or lock }
+// The command, where the lock that it takes or gives is one that there is.
+fn with_known_lock(command: Command) -> Result<Command, Wrong>
+    ensures { result ≡ with_known_lock command }
 {
-    if lock < LOCKS {
-        Ok(lock)
-    } else {
-        Err(Wrong::UnknownLock)
+    match command {
+        Command::Take(lock) | Command::Give(lock) if lock >= LOCKS => {
+            Err(Wrong::UnknownLock(command))
+        }
+        _ => Ok(command),
     }
 }
 
@@ -31,15 +34,15 @@ pub(crate) fn next_command(bytes: &[u8]) -> Result<(Command, &[u8]), Wrong>
         [] => Err(Wrong::NoBytes),
         [0x00, rest @ ..] => Ok((Command::Stop, rest)),
         [0x01, rest @ ..] => Ok((Command::Pass, rest)),
-        [0x02, lock, rest @ ..] => Ok((Command::Take(known_lock(*lock)?), rest)),
-        [0x03, lock, rest @ ..] => Ok((Command::Give(known_lock(*lock)?), rest)),
+        [0x02, lock, rest @ ..] => Ok((with_known_lock(Command::Take(*lock))?, rest)),
+        [0x03, lock, rest @ ..] => Ok((with_known_lock(Command::Give(*lock))?, rest)),
         [0x04, high, low, rest @ ..] => Ok((Command::Goto(target(*high, *low)), rest)),
         [0x05, high, low, other_high, other_low, rest @ ..] => {
             let first = target(*high, *low);
             let second = target(*other_high, *other_low);
             Ok((Command::Either(first, second), rest))
         }
-        [0x02..=0x05, ..] => Err(Wrong::CutOff),
-        _ => Err(Wrong::UnknownCommand),
+        [byte @ 0x02..=0x05, ..] => Err(Wrong::CutOff(*byte)),
+        [byte, ..] => Err(Wrong::UnknownCommand(*byte)),
     }
 }

@@ -1,10 +1,41 @@
-use crate::listing::{Listing, ListingFault};
+use crate::listing::{Command, Listing, ListingFault, Wrong};
 use std::test::Fail;
 
 // The number and the place of a refusal, or nothing where the bytes were read.
 fn refusal(answer: Result<(), ListingFault>) -> Option<(u8, usize)> {
     let refusal = answer.err()?.refusal();
     Some((refusal.number, refusal.place))
+}
+
+// What is wrong, or nothing where the bytes were read.
+fn wrong(answer: Result<(), ListingFault>) -> Option<Wrong> {
+    Some(answer.err()?.wrong)
+}
+
+#[test]
+fn faults_tell_what_stands_there(rt: HostRuntime) -> Result<(), Fail> {
+    let mut listing = Listing::new(rt.alloc())?;
+    assert_eq!(rt;
+        wrong(listing.read(&[0x00, 0x06])),
+        Some(Wrong::UnknownCommand(0x06))
+    );
+    assert_eq!(rt;
+        wrong(listing.read(&[0x05, 0x00, 0x00])),
+        Some(Wrong::CutOff(0x05))
+    );
+    assert_eq!(rt;
+        wrong(listing.read(&[0x03, 0x08])),
+        Some(Wrong::UnknownLock(Command::Give(8)))
+    );
+    assert_eq!(rt;
+        wrong(listing.read(&[0x00, 0x04, 0x00, 0x02])),
+        Some(Wrong::MissingTarget(Command::Goto(2)))
+    );
+    assert_eq!(rt;
+        wrong(listing.read(&[0x02, 0x07])),
+        Some(Wrong::RunsOffTheEnd(Command::Take(7)))
+    );
+    Ok(())
 }
 
 #[test]
