@@ -1,0 +1,5 @@
+pub mod LineLaws
+pub mod TaskLaws
+pub mod TextLaws
+pub mod TraceLaws
+pub mod VerdictLaws
