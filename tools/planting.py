@@ -10,6 +10,29 @@ def root():
     return subprocess.run(['git', 'rev-parse', '--show-toplevel'], capture_output=True, text=True).stdout.strip()
 
 
+def rests_on(top):
+    """Of each crate, in the order of crates.txt, all those that it rests on."""
+    with open(os.path.join(top, 'crates.txt'), encoding='utf-8') as file:
+        lines = [re.match(r'(\w+)[^:#]*:(.*)', line) for line in file]
+    uses = {line.group(1): set(line.group(2).split()) for line in lines if line}
+    for _ in uses:
+        for used in uses.values():
+            used |= set().union(*(uses.get(it, ()) for it in used))
+    return uses
+
+
+def complaints(said):
+    """What a check says is wrong in a crate: errors, each with what is told of it below, and goals that it does not prove."""
+    return re.findall(r'^(?:(?:\./)?(?:src|specs|proofs)/\S+?:\d+:\d+: error|note: src/\S+?:\d+:\d+: .*\(`).*\n(?:  .*\n)*', said, re.M)
+
+
+def is_unfit(complaint):
+    """Whether a proof only cites what the code no longer has: a goal, a step, a field; or what cites such a proof is not
+    looked at. Or it means another arm of a match than the code, where both have a value of that kind."""
+    return re.search(r'has no `|has no field|is not in scope|was not admitted|one has `c\.in-([^.` ]*).*?other has `c\.in-(?!\1[.` ])',
+                     complaint, re.S) is not None
+
+
 def replace(what, work, path, old, new):
     with open(os.path.join(work, path), encoding='utf-8') as file:
         text = file.read()
