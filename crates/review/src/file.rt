@@ -8,6 +8,8 @@ mod reader;
 mod review;
 mod section;
 mod taking;
+#[cfg(test)]
+mod tests;
 
 pub use fault::{FileFault, Within};
 pub use laws::{
