@@ -9,6 +9,8 @@ mod review;
 mod section;
 mod taking;
 mod words;
+#[cfg(test)]
+mod tests;
 
 pub use fault::{FileFault, Within};
 pub use laws::{
