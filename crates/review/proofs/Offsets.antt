@@ -1,9 +1,8 @@
 -- Faults stand at their offsets.
-use Rattle.std.proofs.Common.{◌≡◌, ℕ, ◌+◌, ◌<◌, ◌≤◌, List, ◌∷◌, ◌++◌, [], length, drop, sym, refl, ap, subst, ◌∙◌, arith, append_assoc, length-append}
+use Rattle.std.proofs.Common.{◌≡◌, ℕ, ◌+◌, ◌≤◌, List, ◌∷◌, ◌++◌, [], length, drop, sym, refl, ap, subst, ◌∙◌, arith, append_assoc, length-append}
 use Rattle.std.proofs.lemmas.Grind.{flat_map-append}
 use Rattle.std.proofs.lemmas.List.{drop-append-le}
 use Rattle.std.proofs.Math.Seq.{drop-append-add, drop-append_seam}
-use Rattle.layers.specs.Naming.{NumbersAnswer}
 use Rattle.readers.specs.declared.listing.command.Command as listed
 use Rattle.readers.specs.declared.listing.fault.Wrong.{Wrong}
 use Rattle.readers.specs.declared.listing.fault.Wrong.TheVariants as wrong
