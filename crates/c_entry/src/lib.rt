@@ -4,6 +4,9 @@
 ghost use Rattle.std.specs.Prelude.{◌≡◌, ◌≢◌};
 ghost use Rattle.c_entry.specs.CNumbers.{c_number, no_memory, ByRoom, CAnswers, FewMoves};
 
+#[cfg(test)]
+mod tests;
+
 use locks::refusals::Refusal;
 use pairs::answers::Verdict;
 use review::entry::{VerdictRoom, verdict};

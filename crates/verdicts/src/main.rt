@@ -1,6 +1,9 @@
 // Reads a review file from standard input, and prints its report.
 #![tactic(auto)]
 
+#[cfg(test)]
+mod tests;
+
 use review::report::print_report;
 use std::io;
 
