@@ -21,6 +21,10 @@ def rests_on(top):
     return uses
 
 
+def has_tests(folder):
+    return subprocess.run(['grep', '-rqF', '#[test]', os.path.join(folder, 'src')]).returncode == 0
+
+
 def complaints(said):
     """What a check says is wrong in a crate: errors, each with what is told of it below, and goals that it does not prove."""
     return re.findall(r'^(?:(?:\./)?(?:src|specs|proofs)/\S+?:\d+:\d+: error|note: src/\S+?:\d+:\d+: .*\(`).*\n(?:  .*\n)*', said, re.M)
