@@ -13,13 +13,13 @@ use review::entry::{VerdictRoom, verdict};
 use search::threads::Pair;
 use std::alloc::{AllocError, Global};
 
-// The answer where memory is out, which no refusal is.
+// The answer where the call is out of memory, which no refusal is.
 const NO_MEMORY: i64 = i64::MIN;
 
 // Of two listings and a pair: the count of moves, -1 for never, or -(100 + number) for a refusal. The moves go to the
 // front of the run, two bytes each, the higher first. In C a slice is a pointer and a length, and the heap is nothing.
 #[unsafe(no_mangle)]
-pub extern "C" fn pair_verdict(
+pub extern "C" fn pair_verdict_entry(
     left: &[u8],
     right: &[u8],
     left_location: u32,

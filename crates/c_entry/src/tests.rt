@@ -1,5 +1,5 @@
 // The verdict on one pair with each kind of answer, and the number that a C program gets.
-use crate::pair_verdict;
+use crate::pair_verdict_entry;
 use locks::refusals::{Part, Refusal};
 use pairs::answers::Verdict;
 use review::entry::{VerdictRoom, verdict};
@@ -71,7 +71,7 @@ fn check(
     let given = verdict(VerdictRoom::new(heap)?, left, right, pair, &mut run);
     assert_eq!(rt; given, answer, "{name}");
     assert_eq!(rt; run.as_slice(), after.as_slice(), "{name}");
-    let given = pair_verdict(left, right, pair.left, pair.right, &mut run_of_c, heap);
+    let given = pair_verdict_entry(left, right, pair.left, pair.right, &mut run_of_c, heap);
     assert_eq!(rt; given, number, "{name}");
     assert_eq!(rt; run_of_c.as_slice(), after.as_slice(), "{name}");
     Ok(())
