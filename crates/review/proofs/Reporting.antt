@@ -1,8 +1,9 @@
 -- What is printed of the answer to a file.
 use Rattle.std.proofs.Common.{◌≡◌, ℕ, ◌+◌, ◌<◌, ◌≤◌, ◌⊎◌, List, [], ◌++◌, length, take, Some, None, Option, Ok, Err, Result, ap, subst, sym, ◌∙◌, inl, inr, arith}
-use Rattle.std.specs.Prelude.{IfSome, OnOk}
+use Rattle.std.specs.Prelude.{IfSome, IsErr}
 use Rattle.std.specs.Option.{option_map}
-use Rattle.std.specs.Io.KnownBytes.{Appends, Keeps}
+use Rattle.output.specs.Fronts.{WritesText, Prints}
+use Rattle.output.proofs.Growing.{prints, prints_nothing}
 use Rattle.std.proofs.lemmas.Bool.{cases_lt}
 use Rattle.std.proofs.lemmas.List.{take_all, length-take-le}
 use Rattle.locks.specs.declared.together.Side.{Side}
@@ -15,7 +16,7 @@ use Rattle.review.specs.declared.file.fault.FileFault.TheVariants.{TooLong, Ends
 use Rattle.review.specs.declared.report.error.ReportError.{ReportError}
 use Rattle.review.specs.declared.report.error.ReportError.TheVariants.{Summary}
 use Rattle.review.specs.Limits.{most_bytes}
-use Rattle.review.specs.Reports.{left_graph, right_graph, PairLines, ReviewAnswers, FileAnswers, Reported, RefusalPrinted, ReviewSays, ReportOf, Reports, Prints, StandsFor}
+use Rattle.review.specs.Reports.{left_graph, right_graph, PairLines, ReviewAnswers, FileAnswers, Reported, RefusalPrinted, ReviewSays, ReportOf, Reports, StandsFor}
 use Rattle.review.specs.Reviews.{Meaning, FileSays}
 
 -- the text that stands for an answer is the report
@@ -62,22 +63,16 @@ of_all bs text r = by (cases_lt most_bytes (length bs))
         (r.0, only_long (take (most_bytes + 1) bs) bs r.0 (omega arith) long r.1, r.2)
     by (inr short) = subst (λ xs. Reports xs text) (take_all (most_bytes + 1) bs (omega arith)) r
 
--- what is appended is kept
-kept : (a b d : Option (List ℕ)) (text : List ℕ) → Appends a b text → Keeps b d → Appends a d text
-kept None b d text h k = h
-kept (Some xs) None d text h k = absurd h
-kept (Some xs) (Some ys) None text h k = absurd k
-kept (Some xs) (Some ys) (Some zs) text h k = k ∙ h
+pub printed : {E : Type 0} (known : Option (List ℕ)) (file text : List ℕ) (a b : Option (List ℕ)) (r : Result (Unit {0}) E) → IfSome known (λ bytes. file ≡ take (most_bytes + 1) bytes) → Reports file text → WritesText a b text r → IfSome known (λ bytes. Prints (Reports bytes) a b r)
+printed None file text a b r h says w = tt
+printed (Some bytes) file text a b r h says w = prints (Reports bytes) a b text r (of_all bytes text (subst (λ xs. Reports xs text) h says)) w
 
-pub printed : (known : Option (List ℕ)) (file text : List ℕ) (a b d : Option (List ℕ)) → IfSome known (λ bytes. file ≡ take (most_bytes + 1) bytes) → Reports file text → Appends a b text → Keeps b d → IfSome known (λ bytes. Prints bytes a d)
-printed None file text a b d h r appends keeps = tt
-printed (Some bytes) file text a b d h r appends keeps = (text, of_all bytes text (subst (λ xs. Reports xs text) h r), kept a b d text appends keeps)
+-- an error before anything is written
+pub nothing_printed : {E : Type 0} (known : Option (List ℕ)) (a : Option (List ℕ)) (r : Result (Unit {0}) E) → IsErr r → IfSome known (λ bytes. Prints (Reports bytes) a a r)
+nothing_printed None a r h = tt
+nothing_printed (Some bytes) a r h = prints_nothing (Reports bytes) a r h
 
 -- what a reader gives of its bytes, as far as it is read
 pub read_so : (known : Option (List ℕ)) (file before : List ℕ) (n m : ℕ) → before ≡ [] → n ≡ m → IfSome (option_map (take n) known) (λ bytes. file ≡ before ++ bytes) → IfSome known (λ bytes. file ≡ take m bytes)
 read_so None file before n m e f h = tt
 read_so (Some bytes) file before n m e f h = h ∙ ap (λ xs. xs ++ take n bytes) e ∙ ap (λ k. take k bytes) f
-
-pub on_ok : {X E P : Type 0} (r : Result X E) → P → OnOk r P
-on_ok (Ok x) h = h
-on_ok (Err e) h = tt

@@ -1,6 +1,5 @@
 -- What a review file is answered with, and what is printed of it.
-use Rattle.std.specs.Prelude.{◌≡◌, ℕ, List, length, ◌⊎◌, ◌++◌, Some, Ok, Err, Option, Result}
-use Rattle.std.specs.Io.KnownBytes.{Appends}
+use Rattle.std.specs.Prelude.{◌≡◌, ℕ, List, length, ◌⊎◌, ◌++◌, Some, Ok, Err, Result}
 use Rattle.std.specs.List.{slice_get, flat_map}
 use Rattle.layers.specs.Renaming.{renamed_graph}
 use Rattle.locks.specs.declared.refusals.Refusal.{Refusal}
@@ -87,11 +86,7 @@ ReportOf (Err f) text = text ≡ refusal_line (file_refusal f) (within f)
 abbrev pub Reports : List ℕ → List ℕ → Type 0
 Reports file text = (q : Result Meaning FileFault) × FileSays file q × ReportOf q text
 
--- what a writer holds grows by the report of the file, and by nothing else
-abbrev pub Prints : List ℕ → Option (List ℕ) → Option (List ℕ) → Type 0
-Prints file before after = (text : List ℕ) × Reports file text × Appends before after text
-
--- the text that stands for an answer; none stands for want of memory
+-- the text that stands for an answer; none stands for being out of memory
 abbrev pub StandsFor : Result (List ℕ) ReportError → List ℕ → Type 0
 StandsFor (Ok lines) text = text ≡ lines
 StandsFor (Err OutOfMemory) text = ⊥

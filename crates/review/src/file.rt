@@ -8,14 +8,14 @@ mod reader;
 mod review;
 mod section;
 mod taking;
-mod words;
 #[cfg(test)]
 mod tests;
+mod words;
 
 pub use fault::{FileFault, Within};
 pub use laws::{
     faults_stand_at_their_offsets, files_read_back, sections_stand_behind_headers,
-    worked_file_is_its_bytes,
+    worked_file_is_its_bytes, worked_files_are_refused,
 };
 pub use phase::Phase;
 pub use reader::Reader;

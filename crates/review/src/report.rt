@@ -1,8 +1,8 @@
 // The report of a review file: what is answered and what is printed of it.
 mod asks;
 mod error;
+mod joining;
 mod making;
-mod printing;
 mod telling;
 #[cfg(test)]
 mod tests;

@@ -9,7 +9,7 @@ use crate::asking::{script, summary};
 use crate::file::Review;
 use crate::report::ReportError;
 use crate::report::asks::Asks;
-use crate::report::printing::print;
+use crate::report::joining::joined;
 use crate::report::telling::{Right, lines, picked};
 use graph::ThreadGraph;
 use locks::together::Side;
@@ -62,6 +62,6 @@ fn tell(
         });
     }
     let lines = lines(heap, &asks.pairs, &answers[2..])?;
-    let text = print(heap, &picked(heap, &lines, &asks.places)?)?;
+    let text = joined(heap, &picked(heap, &lines, &asks.places)?)?;
     Ok(text)
 }

@@ -1,32 +1,33 @@
 // What a program prints of a review file: here an answer becomes text.
-ghost use Rattle.std.specs.Prelude.{◌≡◌, ◌+◌, take, vec_items, IfOk, OnOk, IfSome};
+ghost use Rattle.std.specs.Prelude.{◌≡◌, ◌+◌, take, vec_items, IfOk, IfSome};
+ghost use Rattle.output.specs.Fronts.{Prints};
 ghost use Rattle.review.specs.Limits.{most_bytes};
 ghost use Rattle.review.specs.Lines.{line_text};
-ghost use Rattle.review.specs.Reports.{as_text, refusal_line, of_thread, Reports, Prints, StandsFor};
+ghost use Rattle.review.specs.Reports.{as_text, refusal_line, of_thread, Reports, StandsFor};
 
 use crate::file::{MOST_BYTES, Within};
 use crate::lines::Line;
-use crate::report::printing::print;
+use crate::report::joining::joined;
 use crate::report::{ReportError, report};
 use locks::refusals::Refusal;
 use locks::together::Side;
+use output::print;
 use std::alloc::{AllocError, Global};
 use std::io;
 use std::io::{Read, Write};
 
-// Reads a review file to its end and writes its report, or the one line of its refusal, and nothing else. Input or
-// output that fails and want of memory are errors; what is written then is left open.
+// Reads a review file, and writes its report, or the one line of its refusal, and nothing else. Input or output that
+// fails is an error, and so it is to be out of memory; nothing but a front of the report is written then.
 pub fn print_report<R: Read + Drop, W: Write>(
     heap: Global,
     input: R,
     output: &mut W,
 ) -> io::Result<()>
-    ensures { OnOk result (IfSome (R.remaining input) (λ file. Prints file (W.contents output.old) (W.contents output.new))) }
+    ensures { IfSome (R.remaining input) (λ file. Prints (Reports file) (W.contents output.old) (W.contents output.new) result) }
 {
     let file = read_file(heap, input)?;
     let text = report_text(heap, &file)?;
-    output.write_all(&text)?;
-    output.flush()
+    print(output, &text)
 }
 
 // One byte more than a file may have decides that it is too long, however many follow.
@@ -51,9 +52,9 @@ fn in_text(heap: Global, answer: Result<Vec<u8>, ReportError>) -> Result<Vec<u8>
     match answer {
         Ok(lines) => Ok(lines),
         Err(ReportError::OutOfMemory) => Err(AllocError),
-        Err(ReportError::File(fault)) => print(heap, &[refused(fault.refusal(), fault.within())]),
+        Err(ReportError::File(fault)) => joined(heap, &[refused(fault.refusal(), fault.within())]),
         Err(ReportError::Summary { side, fault }) => {
-            print(heap, &[refused(fault.refusal(), of_thread(side))])
+            joined(heap, &[refused(fault.refusal(), of_thread(side))])
         }
     }
 }

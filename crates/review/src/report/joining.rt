@@ -6,7 +6,7 @@ ghost use Rattle.review.specs.Telling.{lines_text};
 use crate::lines::Line;
 use std::alloc::{AllocError, Global};
 
-pub(crate) fn print(heap: Global, lines: &[Line]) -> Result<Vec<u8>, AllocError>
+pub(crate) fn joined(heap: Global, lines: &[Line]) -> Result<Vec<u8>, AllocError>
     ensures { IfOk result (λ text. text.items ≡ lines_text lines.now) }
 {
     let mut text = Vec::new(heap);
