@@ -1,13 +1,15 @@
 -- What a reading of a text answers, in the subject's words.
 use Rattle.std.proofs.Common.{◌≡◌, ℕ, List, [], ◌++◌, Some, None, Ok, Err, Option, Result, IfSome, refl, sym, ap, ◌∙◌, subst}
-use Rattle.std.specs.Io.KnownBytes.{Appends}
+use Rattle.std.specs.Prelude.{IsErr}
+use Rattle.output.specs.Fronts.{WritesText, Prints}
+use Rattle.output.proofs.Growing.{prints, prints_nothing}
 use Rattle.task.specs.declared.fault.TextFault.{TextFault}
 use Rattle.task.specs.Contents.{kept}
 use Rattle.task.specs.Faults.{fault_text}
 use Rattle.task.specs.Spelled.{TaskValue, spelled, told}
 use Rattle.task.proofs.Judged.{accepted, reasons}
 use Rattle.transcript.specs.Lines.{ended, Adds}
-use Rattle.transcript.specs.Transcripts.{TaskSays, TextTold, Transcribes, Transcribed}
+use Rattle.transcript.specs.Transcripts.{TaskSays, TextTold, Transcribes}
 use Rattle.transcript.proofs.LineLaws.{adds_one}
 
 -- the answer, apart from the task
@@ -29,10 +31,15 @@ module _ (text before after : List ℕ) where
   pub text_refused : (f : TextFault) → Err f ≡ answered (spelled text) → after ≡ before ++ ended (fault_text f) → Adds (TextTold text) before after
   text_refused f e line = adds_one (TextTold text) before after (fault_text f) line (Err f, reasons.told text f (spelled_fault f (spelled text) e), refl)
 
--- what was left to read was read, and its transcript was written
-pub printed : (o : Option (List ℕ)) (start read text bytes written : List ℕ) (old new : Option (List ℕ)) → start ≡ [] → IfSome o (λ left. read ≡ start ++ left) → text ≡ read
-    → Transcribes text bytes → written ≡ bytes → Appends old new written → IfSome o (λ left. Transcribed left old new)
-printed None start read text bytes written old new s r e t w a = tt
-printed (Some left) start read text bytes written old new s r e t w a =
+-- what was left to read was read, and its transcript was written as far as it goes
+pub printed : {E : Type 0} (o : Option (List ℕ)) (start read text bytes written : List ℕ) (old new : Option (List ℕ)) (r : Result (Unit {0}) E) → start ≡ [] → IfSome o (λ left. read ≡ start ++ left) → text ≡ read
+    → Transcribes text bytes → written ≡ bytes → WritesText old new written r → IfSome o (λ left. Prints (Transcribes left) old new r)
+printed None start read text bytes written old new r s h e t w a = tt
+printed (Some left) start read text bytes written old new r s h e t w a =
     let P : List ℕ → Type 0 = λ x. Transcribes x bytes in
-    (bytes, subst P (e ∙ r ∙ ap (λ x. x ++ left) s) t, subst (Appends old new) w a)
+    prints (Transcribes left) old new bytes r (subst P (e ∙ h ∙ ap (λ x. x ++ left) s) t) (subst (λ x. WritesText old new x r) w a)
+
+-- an error before anything is written
+pub nothing_printed : {E : Type 0} (o : Option (List ℕ)) (old : Option (List ℕ)) (r : Result (Unit {0}) E) → IsErr r → IfSome o (λ left. Prints (Transcribes left) old old r)
+nothing_printed None old r h = tt
+nothing_printed (Some left) old r h = prints_nothing (Transcribes left) old r h

@@ -1,6 +1,5 @@
 -- What is written of a text.
-use Rattle.std.specs.Prelude.{◌≡◌, ℕ, List, [], ◌∷◌, ◌++◌, Ok, Err, Option, Result}
-use Rattle.std.specs.Io.KnownBytes.{Appends}
+use Rattle.std.specs.Prelude.{◌≡◌, ℕ, List, [], ◌∷◌, ◌++◌, Ok, Err, Result}
 use Rattle.locks.specs.declared.together.Side.TheVariants.{Left, Right}
 use Rattle.locks.specs.Graphs.{Graph}
 use Rattle.readers.specs.declared.listing.command.Command.{Command}
@@ -63,7 +62,3 @@ TextTold text lines = (r : Result TaskValue TextFault) × TextIs text r × Lines
 -- the transcript of a text
 abbrev pub Transcribes : List ℕ → List ℕ → Type 0
 Transcribes text written = (lines : List (List ℕ)) × (written ≡ text_of lines) × TextTold text lines
-
--- a transcript of the text is appended to what a writer holds, and nothing else
-abbrev pub Transcribed : List ℕ → Option (List ℕ) → Option (List ℕ) → Type 0
-Transcribed text old new = (written : List ℕ) × Transcribes text written × Appends old new written

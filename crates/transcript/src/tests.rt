@@ -1,9 +1,9 @@
 // Texts and what is written for each, worked out by hand: a way in which a transcript can end in each.
-use crate::{print_transcript, transcript};
+use crate::print_transcript;
 use std::alloc::{AllocError, Global};
-use std::io;
 use std::io::{ErrorKind, Read, Write};
 use std::test::Fail;
+use std::{io, str};
 
 // Whole texts and their transcripts.
 const TEXTS: [(&str, &str); 17] = [
@@ -209,8 +209,8 @@ const SCHEDULES: [(&str, &str); 11] = [
 #[test]
 fn each_text_has_its_transcript(rt: HostRuntime) -> Result<(), Fail> {
     for (text, wanted) in TEXTS {
-        let written = transcript(rt.alloc(), text.as_bytes())?;
-        assert_eq!(rt; written.as_str(), wanted, "for {text}");
+        let written = printed(rt.alloc(), text)?;
+        assert_eq!(rt; str::from_utf8(&written)?, wanted, "for {text}");
     }
     Ok(())
 }
@@ -220,9 +220,9 @@ fn each_schedule_has_its_transcript(rt: HostRuntime) -> Result<(), Fail> {
     let heap = rt.alloc();
     for (asked, wanted) in SCHEDULES {
         let text = format!(in heap; "{THREADS}{asked}")?;
-        let written = transcript(heap, text.as_bytes())?;
+        let written = printed(heap, text.as_str())?;
         let wanted = format!(in heap; "{STARTS}{wanted}")?;
-        assert_eq!(rt; written.as_str(), wanted.as_str(), "for {asked}");
+        assert_eq!(rt; str::from_utf8(&written)?, wanted.as_str(), "for {asked}");
     }
     Ok(())
 }
@@ -232,8 +232,8 @@ fn an_item_too_many_is_a_fault(rt: HostRuntime) -> Result<(), Fail> {
     let heap = rt.alloc();
     let items = repeated(heap, " 00", 4097)?;
     let text = format!(in heap; "left{items}\n")?;
-    let written = transcript(heap, text.as_bytes())?;
-    assert_eq!(rt; written.as_str(), "line 1: more than 4096 items\n");
+    let written = printed(heap, text.as_str())?;
+    assert!(rt; written.as_slice() == b"line 1: more than 4096 items\n".as_slice());
     Ok(())
 }
 
@@ -248,8 +248,8 @@ fn the_most_moves_are_traced(rt: HostRuntime) -> Result<(), Fail> {
     let wanted = format!(in heap;
         "left: {line}right: {line}start: {stays}{trace}replays to 0 0, moves 4096\n0 0 reached 0:\n"
     )?;
-    let written = transcript(heap, text.as_bytes())?;
-    assert!(rt; written.as_bytes() == wanted.as_bytes());
+    let written = printed(heap, text.as_str())?;
+    assert!(rt; written.as_slice() == wanted.as_bytes());
     Ok(())
 }
 
@@ -260,9 +260,16 @@ fn a_long_schedule_is_written_to_its_end(rt: HostRuntime) -> Result<(), Fail> {
     let text = format!(in heap; "left{passes} 00\nright 00\npair 511 0\nmoves\n")?;
     let moves = repeated(heap, " L0", 511)?;
     let wanted = format!(in heap; "refused 21 at 0 in replay\n511 0 reached 511:{moves}\n")?;
-    let written = transcript(heap, text.as_bytes())?;
-    assert!(rt; written.as_str().ends_with(wanted.as_str()));
+    let written = printed(heap, text.as_str())?;
+    assert!(rt; written.ends_with(wanted.as_bytes()));
     Ok(())
+}
+
+// What is printed of a text.
+fn printed(heap: Global, text: &str) -> io::Result<Vec<u8>> {
+    let mut output = Vec::new(heap);
+    print_transcript(heap, text.as_bytes(), &mut output)?;
+    Ok(output)
 }
 
 fn repeated(heap: Global, piece: &str, times: usize) -> Result<String, AllocError> {
@@ -296,7 +303,7 @@ impl Read for BreaksOff<'_> {
     }
 }
 
-// Writes as many bytes as there is room for, and then fails.
+// Writes as many bytes as there is room for, and then fails, also where it is flushed.
 #[derive(Drop)]
 struct FillsUp(usize);
 
@@ -311,6 +318,9 @@ impl Write for FillsUp {
     }
 
     fn flush(&mut self) -> io::Result<()> {
+        if self.0 == 0 {
+            return Err(io::Error::from(ErrorKind::StorageFull));
+        }
         Ok(())
     }
 }
@@ -329,7 +339,8 @@ fn an_error_of_the_reader_comes_out(rt: HostRuntime) -> Result<(), Fail> {
 
 #[test]
 fn an_error_of_the_writer_comes_out(rt: HostRuntime) -> Result<(), Fail> {
-    for room in [0, 1, 40] {
+    let whole = printed(rt.alloc(), str::from_utf8(WHOLE)?)?.len();
+    for room in [0, 1, 40, whole] {
         let answer = print_transcript(rt.alloc(), WHOLE, &mut FillsUp(room));
         assert_eq!(rt; failed(answer), Some(ErrorKind::StorageFull));
     }
