@@ -77,8 +77,23 @@ static inline int64_t pair_verdict(const uint8_t *left, size_t left_size, const 
 /* The number of the refusal that an answer is, or 0 where it is none. */
 static inline int pair_verdict_refusal(int64_t answer)
 {
-    int number = answer >= -118 && answer <= -101 ? (int)(-100 - answer) : 0;
-    return (number >= 8 && number <= 12) || number == 16 ? 0 : number;
+    switch (answer) {
+    case PAIR_VERDICT_REFUSED_NO_BYTES:
+    case PAIR_VERDICT_REFUSED_UNKNOWN_COMMAND:
+    case PAIR_VERDICT_REFUSED_CUT_OFF:
+    case PAIR_VERDICT_REFUSED_TOO_MANY_COMMANDS:
+    case PAIR_VERDICT_REFUSED_UNKNOWN_LOCK:
+    case PAIR_VERDICT_REFUSED_MISSING_TARGET:
+    case PAIR_VERDICT_REFUSED_RUNS_OFF_THE_END:
+    case PAIR_VERDICT_REFUSED_TOO_MANY_STATES:
+    case PAIR_VERDICT_REFUSED_NESTING_FAULT:
+    case PAIR_VERDICT_REFUSED_DEPTH_FAULT:
+    case PAIR_VERDICT_REFUSED_NO_SUCH_LOCATION:
+    case PAIR_VERDICT_REFUSED_RUN_TOO_SHORT:
+        return (int)(-100 - answer);
+    default:
+        return 0;
+    }
 }
 
 /* What an answer says. */

@@ -26,15 +26,16 @@ no_memory = negsuc (2 ^ 63 - 1)
 abbrev pub Numbered : List ℕ → List ℕ → Pair → List ℕ → ℤ → List ℕ → Type 0
 Numbered l r p before n after = (q : Result Verdict Refusal) × ListingsSay l r p before q after × (n ≡ c_number q)
 
--- the number for want of memory, with the run as it was
+-- the number for being out of memory, with the run as it was
 abbrev pub OutOfMemory : List ℕ → ℤ → List ℕ → Type 0
 OutOfMemory before n after = (n ≡ no_memory) × (after ≡ before)
 
--- where the room is there, what is to be said and never the number for want of memory, which comes where it is not
+-- A room that was made gives what is to be said, and never the number for being out of memory. That number comes where no
+-- room could be made.
 abbrev pub ByRoom : {R E : Type 0} → Result R E → List ℕ → List ℕ → Pair → List ℕ → ℤ → List ℕ → Type 0
 ByRoom (Ok room) l r p before n after = Numbered l r p before n after × (n ≢ no_memory)
 ByRoom (Err e) l r p before n after = OutOfMemory before n after
 
--- what is to be said of the listings, as a number, or the number for want of memory with the run as it was
+-- what is to be said of the listings, as a number, or the number for being out of memory with the run as it was
 abbrev pub CAnswers : List ℕ → List ℕ → ℕ → ℕ → List ℕ → ℤ → List ℕ → Type 0
 CAnswers l r a b before n after = Numbered l r (record { left = a; right = b }) before n after ⊎ OutOfMemory before n after

@@ -1,5 +1,5 @@
 -- What is wrong with a file, in words.
-use Rattle.std.specs.Prelude.{ℕ, ◌-◌, List, [], ◌++◌, codes}
+use Rattle.std.specs.Prelude.{ℕ, ◌+◌, ◌-◌, ◌/◌, ◌%◌, cond, List, [], ◌∷◌, ◌++◌, codes, nat_lt}
 use Rattle.std.specs.Fmt.{decimal}
 use Rattle.layers.specs.declared.names.fault.NamesFault.{NamesFault}
 use Rattle.locks.specs.Limits.{lock_limit}
@@ -24,6 +24,14 @@ command_name (Either t u) = codes "EITHER"
 abbrev pub with_number : List ℕ → ℕ → List ℕ → List ℕ
 with_number before n after = (before ++ decimal n) ++ after
 
+-- a digit to the base 16
+abbrev pub hex_digit : ℕ → ℕ
+hex_digit d = cond (nat_lt d 10) (48 + d) (87 + d)
+
+-- a byte in the midst of words, by its two digits
+abbrev pub with_byte : List ℕ → ℕ → List ℕ → List ℕ
+with_byte before b after = (before ++ (hex_digit (b / 16) ∷ hex_digit (b % 16) ∷ [])) ++ after
+
 -- what a command names or where it leads, as its bytes have it
 abbrev pub operand_words : Command → List ℕ
 operand_words Stop = []
@@ -39,13 +47,13 @@ command_words c = command_name c ++ operand_words c
 abbrev pub wrong_words : Wrong → List ℕ
 wrong_words NoBytes = codes "the listing has no bytes"
 wrong_words TooManyCommands = with_number (codes "a listing has at most ") most (codes " commands, and here is one more")
-wrong_words (UnknownCommand b) = with_number (codes "byte ") b (codes " begins no command")
-wrong_words (CutOff b) = with_number (codes "the listing ends within the command that byte ") b (codes " begins")
+wrong_words (UnknownCommand b) = with_byte (codes "byte ") b (codes " begins no command")
+wrong_words (CutOff b) = with_byte (codes "the listing ends within the command that byte ") b (codes " begins")
 wrong_words (UnknownLock c) = (command_words c ++ codes ", and locks go from 0 to ") ++ decimal (lock_limit - 1)
 wrong_words (MissingTarget c) = command_words c ++ codes ", and the listing lacks such a command"
 wrong_words (RunsOffTheEnd c) = (codes "the last command is " ++ command_name c) ++ codes ", which leads on to another"
 
--- the number at this place
+-- what is wrong with the number at this place
 abbrev pub names_words : NamesFault → List ℕ
 names_words f =
     (with_number (codes "the number at place ") f.at (codes " stands at an earlier place too, or is above ")) ++ decimal (lock_limit - 1)

@@ -1,7 +1,7 @@
 // What is wrong with a file, in words, for whoever asks for them.
-ghost use Rattle.std.specs.Prelude.{◌≡◌};
+ghost use Rattle.std.specs.Prelude.{◌≡◌, ◌<◌};
 ghost use Rattle.review.specs.Lines.{Filled, LineWritten};
-ghost use Rattle.review.specs.Words.{with_number, command_name, command_words, wrong_words, names_words, file_words};
+ghost use Rattle.review.specs.Words.{with_number, hex_digit, with_byte, command_name, command_words, wrong_words, names_words, file_words};
 
 use crate::file::{FileFault, MOST_BYTES};
 use crate::lines::LineFault;
@@ -58,6 +58,26 @@ fn put_between(space: &mut [u8], before: &[u8], number: u64, after: &[u8]) -> us
     put(space, end, after)
 }
 
+// A byte in the midst of words.
+fn put_byte(space: &mut [u8], before: &[u8], byte: u8, after: &[u8]) -> usize
+    ensures { Filled space.old (with_byte before.now byte after.now) space.new result }
+{
+    let end = put(space, 0, before);
+    let end = put(space, end, &[hex_digit(byte / 16), hex_digit(byte % 16)]);
+    put(space, end, after)
+}
+
+fn hex_digit(digit: u8) -> u8
+    requires { digit < 16 }
+    ensures { result ≡ hex_digit digit }
+{
+    if digit < 10 {
+        b'0' + digit
+    } else {
+        b'a' + (digit - 10)
+    }
+}
+
 fn put_wrong(space: &mut [u8], wrong: Wrong) -> usize
     ensures { Filled space.old (wrong_words wrong) space.new result }
 {
@@ -69,13 +89,11 @@ fn put_wrong(space: &mut [u8], wrong: Wrong) -> usize
             MOST_COMMANDS as u64,
             b" commands, and here is one more",
         ),
-        Wrong::UnknownCommand(byte) => {
-            put_between(space, b"byte ", u64::from(byte), b" begins no command")
-        }
-        Wrong::CutOff(byte) => put_between(
+        Wrong::UnknownCommand(byte) => put_byte(space, b"byte ", byte, b" begins no command"),
+        Wrong::CutOff(byte) => put_byte(
             space,
             b"the listing ends within the command that byte ",
-            u64::from(byte),
+            byte,
             b" begins",
         ),
         Wrong::UnknownLock(command) => {

@@ -6,10 +6,10 @@ pub returns-in-NoBytes : goal.returns-in-NoBytes
 returns-in-NoBytes c = rw c.in-NoBytes.is (c.put.ensures c.args.space.now _ (nothing c.args.space.now))
 
 pub returns-in-UnknownCommand : goal.returns-in-UnknownCommand
-returns-in-UnknownCommand c = rw (c.in-UnknownCommand.is, sym c.from.ensures) c.put_between-in-UnknownCommand.ensures
+returns-in-UnknownCommand c = rw (c.in-UnknownCommand.is) c.put_byte.ensures
 
 pub returns-in-CutOff : goal.returns-in-CutOff
-returns-in-CutOff c = rw (c.in-CutOff.is, sym c.from-in-CutOff.ensures) c.put_between-in-CutOff.ensures
+returns-in-CutOff c = rw (c.in-CutOff.is) c.put_byte-in-CutOff.ensures
 
 pub returns-in-RunsOffTheEnd : goal.returns-in-RunsOffTheEnd
 returns-in-RunsOffTheEnd c =
