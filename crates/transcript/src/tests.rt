@@ -65,7 +65,7 @@ const TEXTS: [(&str, &str); 17] = [
         refused 16 at 1 in ask\n",
     ),
     // Both, for too many states and for a fault. Which of locks 1 to 7 were taken while lock 0 is held makes 128
-    // histories, and six locations stand behind them.
+    // histories, and six locations come after them.
     (
         "left 02 00 \
         05 00 02 00 04 02 01 03 01 05 00 05 00 07 02 02 03 02 05 00 08 00 0a 02 03 03 03 05 00 0b 00 0d 02 04 03 04 \
@@ -281,7 +281,7 @@ fn repeated(heap: Global, piece: &str, times: usize) -> Result<String, AllocErro
 }
 
 #[test]
-fn a_transcript_is_printed_behind_what_is_there(rt: HostRuntime) -> Result<(), Fail> {
+fn a_transcript_is_printed_after_what_is_there(rt: HostRuntime) -> Result<(), Fail> {
     let mut output = Vec::from_slice(rt.alloc(), b"before\n")?;
     print_transcript(rt.alloc(), b"right".as_slice(), &mut output)?;
     assert!(rt;
