@@ -21,3 +21,7 @@ refusal_by_count bs some = refusal_some bs some ∙ go (broken 0 0 0 bs)
     go : (r : Result (Unit {0}) ListingFault) → or_flow r (run 0 bs) ≡ then_flow (run 0 bs) (given r (length (run 0 bs)))
     go (Ok u) = refl
     go (Err f) = refl
+
+-- the commands of the bytes, or why they are refused
+abbrev pub listing : List ℕ → Result (List Command) ListingFault
+listing bs = given (refusal bs) (run 0 bs)

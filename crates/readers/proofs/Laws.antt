@@ -12,9 +12,9 @@ use Rattle.readers.specs.Bytes.{first, width}
 use Rattle.readers.specs.Encoding.{written, encode, LockIsKnown, WellFormed, highest}
 use Rattle.readers.specs.Faults.{fault}
 use Rattle.readers.specs.Flow.{most, inside, goes_on, end_at, flow, all_lead_inside, stops_at_the_end}
-use Rattle.readers.specs.Reading.{given, broken, run, or_flow, refusal, listing}
+use Rattle.readers.specs.Reading.{given, broken, run, or_flow, refusal}
 use Rattle.readers.proofs.Steps.{width_some, run_more, broken_more}
-use Rattle.readers.proofs.Checks.{refusal_some}
+use Rattle.readers.proofs.Checks.{refusal_some, listing}
 use Rattle.readers.proofs.Accepted.{not_broken, bytes_written, accepted_sound}
 use Rattle.readers.proofs.Sizes.{width_written}
 use Rattle.readers.specs.FormLaws.{all_inside, stopped, well_formed}

@@ -13,10 +13,10 @@ use Rattle.readers.specs.Bytes.{first, width}
 use Rattle.readers.specs.Encoding.{written, encode, LockIsKnown, LeadsInside, highest}
 use Rattle.readers.specs.Faults.{fault}
 use Rattle.readers.specs.Flow.{most, flow}
-use Rattle.readers.specs.Reading.{given, broken, run, or_flow, refusal, listing}
+use Rattle.readers.specs.Reading.{given, broken, run, or_flow, refusal}
 use Rattle.readers.specs.Refusals.{operands, WrongBytes, WholeRun, Refused}
 use Rattle.readers.proofs.Steps.{width_some, broken_more, broken_many, broken_wrong}
-use Rattle.readers.proofs.Checks.{refusal_some}
+use Rattle.readers.proofs.Checks.{refusal_some, listing}
 use Rattle.readers.proofs.Accepted.{few, some_command, bytes_written, locks_known}
 use Rattle.readers.specs.FormLaws.{all_locks}
 use Rattle.readers.proofs.Laws.{first_written, drop_written, refusal_encode}

@@ -4,7 +4,8 @@ use Rattle.std.specs.List.{AllByRecursion}
 use Rattle.std.proofs.ByRecursion.{All-from_get_or}
 use Rattle.readers.specs.declared.listing.command.Command.{Command}
 use Rattle.readers.specs.declared.listing.fault.ListingFault.{ListingFault}
-use Rattle.readers.specs.Reading.{given, run, refusal, listing}
+use Rattle.readers.specs.Reading.{given, run, refusal}
+use Rattle.readers.proofs.Checks.{listing}
 use Rattle.readers.specs.Saying.{ListingSays, read_as, Stays, ListingRead, BytesSayOneListing}
 use Rattle.readers.proofs.Laws.{encoded_read, read_encoded}
 use Rattle.readers.proofs.Reasons.{told, only}

@@ -44,7 +44,3 @@ or_flow (Err e) cs = Err e
 abbrev pub refusal : List ℕ → Result (Unit {0}) ListingFault
 refusal [] = Err (fault NoBytes 0)
 refusal (b ∷ bs) = or_flow (broken 0 0 0 (b ∷ bs)) (run 0 (b ∷ bs))
-
--- the commands of the bytes, or why they are refused
-abbrev pub listing : List ℕ → Result (List Command) ListingFault
-listing bs = given (refusal bs) (run 0 bs)

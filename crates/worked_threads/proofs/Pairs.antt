@@ -24,7 +24,7 @@ use Rattle.pairs.specs.Answers.{AskSays, longest}
 use Rattle.pairs.proofs.AskLaws.{one_judgement}
 use Rattle.readers.specs.declared.listing.command.Command.{Command}
 use Rattle.readers.specs.Graph.{listing_graph}
-use Rattle.readers.specs.Reading.{listing}
+use Rattle.readers.proofs.Checks.{listing}
 use Rattle.readers.specs.Saying.{ListingSays}
 use Rattle.readers.specs.GraphLaws.{listing_bounded}
 use Rattle.readers.proofs.Saying.{listing_says}
