@@ -32,7 +32,7 @@ const PLACES: [usize; 16] = [
     18446744073709551615,
 ];
 
-pub fn print_parts(rt: &HostRuntime) -> io::Result<()> {
+pub(crate) fn print_parts(rt: &HostRuntime) -> io::Result<()> {
     for (index, part) in PARTS.into_iter().enumerate() {
         println!(rt; "part {index}: {part}")?;
     }
@@ -40,7 +40,7 @@ pub fn print_parts(rt: &HostRuntime) -> io::Result<()> {
 }
 
 // Each number in each part.
-pub fn print_numbers(rt: &HostRuntime) -> io::Result<()> {
+pub(crate) fn print_numbers(rt: &HostRuntime) -> io::Result<()> {
     for number in 1..=25 {
         for (index, part) in PARTS.into_iter().enumerate() {
             let refusal = Refusal {
@@ -55,7 +55,7 @@ pub fn print_numbers(rt: &HostRuntime) -> io::Result<()> {
 }
 
 // Some places in each part.
-pub fn print_places(rt: &HostRuntime) -> io::Result<()> {
+pub(crate) fn print_places(rt: &HostRuntime) -> io::Result<()> {
     for place in PLACES {
         for (index, part) in PARTS.into_iter().enumerate() {
             let refusal = Refusal {

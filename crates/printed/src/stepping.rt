@@ -24,14 +24,14 @@ fn set_of(bits: u8) -> LockSet {
     set
 }
 
-pub fn print_sets(rt: &HostRuntime) -> io::Result<()> {
+pub(crate) fn print_sets(rt: &HostRuntime) -> io::Result<()> {
     for bits in 0..=255 {
         println!(rt; "set {bits}: {}", set_of(bits))?;
     }
     Ok(())
 }
 
-pub fn print_moves(rt: &HostRuntime) -> io::Result<()> {
+pub(crate) fn print_moves(rt: &HostRuntime) -> io::Result<()> {
     for choice in CHOICES {
         let left = Move {
             side: Side::Left,
@@ -47,7 +47,7 @@ pub fn print_moves(rt: &HostRuntime) -> io::Result<()> {
     Ok(())
 }
 
-pub fn print_positions(rt: &HostRuntime) -> io::Result<()> {
+pub(crate) fn print_positions(rt: &HostRuntime) -> io::Result<()> {
     for location in LOCATIONS {
         for bits in BITS {
             let position = Position {
@@ -60,7 +60,7 @@ pub fn print_positions(rt: &HostRuntime) -> io::Result<()> {
     Ok(())
 }
 
-pub fn print_configurations(rt: &HostRuntime) -> io::Result<()> {
+pub(crate) fn print_configurations(rt: &HostRuntime) -> io::Result<()> {
     for left in BITS {
         for right in BITS {
             let both = Configuration {

@@ -12,14 +12,14 @@ const WRONGS: [Wrong; 7] = [
     Wrong::Surplus,
 ];
 
-pub fn print_phrases(rt: &HostRuntime) -> io::Result<()> {
+pub(crate) fn print_phrases(rt: &HostRuntime) -> io::Result<()> {
     for (index, wrong) in WRONGS.into_iter().enumerate() {
         println!(rt; "wrong {index}: {wrong}")?;
     }
     Ok(())
 }
 
-pub fn print_faults(rt: &HostRuntime) -> io::Result<()> {
+pub(crate) fn print_faults(rt: &HostRuntime) -> io::Result<()> {
     for line in [1, 2, 3, 4, 5, 10, 255] {
         for (index, wrong) in WRONGS.into_iter().enumerate() {
             println!(rt; "fault {line} {index}: {}", TextFault { line, wrong })?;
