@@ -1,10 +1,10 @@
 // What a single word spells.
-ghost use Rattle.std.specs.Prelude.{◌≡◌, ◌<◌, IfOk};
-ghost use Rattle.std.specs.Option.{ok_or};
+ghost use Rattle.std.specs.Prelude.{◌≡◌, ◌<◌, ◌≤◌, ◌+◌, ◌*◌, ◌^◌, IfOk};
+ghost use Rattle.std.specs.Char.{digit_value};
+ghost use Rattle.std.specs.Option.{SomeIff, ok_or};
 ghost use Rattle.task.specs.Words.{byte_of, hex_digit, move_number, number_of};
 
 use crate::fault::Wrong;
-use std::str;
 
 const MOST_LEFT: u32 = 255;
 
@@ -15,12 +15,21 @@ const MOST_RIGHT: u32 = 65279;
 pub(crate) fn number_of(word: &[u8], limit: u32) -> Option<u32>
     ensures { result ≡ number_of limit word.now }
 {
-    // A sign is no digit, though `parse` takes one.
-    if !word.iter().all(|byte| byte.is_ascii_digit()) {
+    if word.is_empty() {
         return None;
     }
-    let number = str::from_utf8(word).ok()?.parse().ok()?;
-    (number <= limit).then_some(number)
+    // One pass, which stops at the first byte that is no digit or leads past the limit.
+    word.iter().try_fold(
+        0,
+        |number: u32, byte|
+            ensures { let longer = number * 10 + digit_value byte.now in
+                SomeIff result ((digit_value byte.now < 10) × (longer < 2 ^ 32) × (longer ≤ limit)) longer }
+        {
+            let digit = char::from(*byte).to_digit(10)?;
+            let number = number.checked_mul(10)?.checked_add(digit)?;
+            (number <= limit).then_some(number)
+        },
+    )
 }
 
 fn hex_digit(digit: u8) -> Result<u8, Wrong>
