@@ -32,6 +32,7 @@ impl<'a> Iterator for Commands<'a> {
 
     ghost remaining = { item_count items_left };
 
+    #[inline]
     fn next(&mut self) -> Option<(usize, Result<Command, ListingFault>)> {
         if self.rest.is_empty() {
             return None;

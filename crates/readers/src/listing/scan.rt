@@ -27,6 +27,7 @@ fn target(high: u8, low: u8) -> u16
 }
 
 // The first command and the bytes behind it.
+#[inline]
 pub(crate) fn next_command(bytes: &[u8]) -> Result<(Command, &[u8]), Wrong>
     ensures { Taken highest bytes.now result }
 {
