@@ -2,9 +2,9 @@
 // on the pair.
 #![tactic(auto)]
 
-use std::io;
 use transcript::print_transcript;
 
-fn main(rt: HostRuntime) -> io::Result<()> {
-    print_transcript(rt.alloc(), rt.stdin(), &mut rt.stdout())
+// What fails is told in the words that `anyhow` prints of it.
+fn main(rt: HostRuntime) -> anyhow::Result<()> {
+    Ok(print_transcript(rt.alloc(), rt.stdin(), &mut rt.stdout())?)
 }
